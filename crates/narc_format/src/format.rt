@@ -1,0 +1,52 @@
+//! A format that is read at the front of what is left.
+ghost use Rattle.std.specs.Prelude.{◌≡◌, ◌+◌, ◌*◌, ◌%◌, ◌≤◌, length, IsTrue, MatchResult};
+ghost use Rattle.narc_bits.specs.Bits.{bits, overlay};
+ghost use Rattle.narc_format.specs.Meaning.{Meaning};
+ghost use Rattle.narc_format.specs.Reading.{Took, Refused};
+ghost use Rattle.narc_format.specs.Laws.{Laws};
+
+use crate::fault::Fault;
+use narc_bits::{Input, Steps, Writer};
+use std::sync::ledger::Ledger;
+
+/// A relation between values and lists of bits, with its reader and its writer.
+///
+/// A value may have several spellings, of which one is written; a spelling has at most one value.
+pub trait Format<I: Input> {
+    /// What reading and writing depend on beside the bits.
+    type Ctx: Copy;
+
+    type Value: Drop;
+
+    ghost meaning: { Meaning Self.Ctx Self.Value };
+
+    /// Reads a value at the front of the bits left, or refuses them.
+    fn read<L: Ledger>(
+        ctx: Self::Ctx,
+        cursor: &mut I,
+        steps: &mut Steps<L>,
+    ) -> Result<Self::Value, Fault>
+        requires sound { meaning.sound }
+        requires aligned { IsTrue meaning.aligned → (I.scan cursor.old).place % 8 ≡ 0 }
+        ensures { MatchResult result (Took meaning ctx (I.scan cursor.old) (I.scan cursor.new) steps.old steps.new) (Refused meaning ctx (I.scan cursor.old) (I.scan cursor.new) steps.old steps.new) };
+
+    /// How many bits the spelling has.
+    fn size(ctx: Self::Ctx, value: &Self::Value) -> usize
+        requires sound { meaning.sound }
+        requires admitted { meaning.admits ctx value.now }
+        requires small { length (meaning.spelling ctx value.now) ≤ 8 * 262144 }
+        ensures { result ≡ length (meaning.spelling ctx value.now) };
+
+    /// Puts the spelling into the room at the writer's place, and moves past it.
+    fn write(ctx: Self::Ctx, value: &Self::Value, room: &mut [u8], writer: &mut Writer)
+        requires sound { meaning.sound }
+        requires admitted { meaning.admits ctx value.now }
+        requires small { length room.old ≤ 262144 }
+        requires enough { writer.old + length (meaning.spelling ctx value.now) ≤ 8 * length room.old }
+        requires aligned { IsTrue meaning.aligned → writer.old % 8 ≡ 0 }
+        ensures len { length room.new ≡ length room.old }
+        ensures put { bits room.new ≡ overlay (bits room.old) writer.old (meaning.spelling ctx value.now) }
+        ensures moved { writer.new ≡ writer.old + length (meaning.spelling ctx value.now) };
+
+    ghost laws: { Laws meaning };
+}

@@ -1,0 +1,19 @@
+//! Formats of one width.
+ghost use Rattle.std.specs.Prelude.{◌≡◌, ℕ, ◌*◌, ◌≤◌};
+ghost use Rattle.narc_format.specs.Widths.{IsWide};
+
+use crate::format::Format;
+use narc_bits::Input;
+
+/// A format whose spellings all have the same number of bits, at most those of a frame.
+pub trait Wide<I: Input>: Format<I> {
+    ghost width_of: { ℕ };
+
+    /// That number.
+    fn width() -> u32
+        requires sound { Self.meaning.sound }
+        requires small { width_of ≤ 8 * 262144 }
+        ensures { result ≡ width_of };
+
+    ghost wide: { IsWide Self.meaning width_of };
+}
