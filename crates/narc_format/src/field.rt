@@ -1,5 +1,5 @@
 //! The fields of a frame, by number, in the order in which they are judged.
-ghost use Rattle.std.specs.Prelude.{◌≡◌, ◌↔◌, ◌≤◌, IsSome, IfSome};
+ghost use Rattle.std.specs.Prelude.{◌≡◌, ◌↔◌, ◌≤◌, length, IsSome, IfSome};
 ghost use Rattle.narc_format.specs.Field.{field_name};
 
 use std::marker::Model;
@@ -115,7 +115,8 @@ impl Field {
 
     /// Its name, as a refusal prints it.
     pub fn name(self) -> &'static str
-        ensures { result.now ≡ field_name self }
+        ensures value { result.now ≡ field_name self }
+        ensures bound { length result.now ≤ 20 }
     {
         match self.number {
             ETHERNET_DESTINATION => "ethernet.destination",

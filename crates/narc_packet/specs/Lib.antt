@@ -1,0 +1,6 @@
+pub mod PacketView
+pub mod Ranges
+pub mod Frame
+pub mod Refusal
+pub mod Answer
+pub mod TextWords

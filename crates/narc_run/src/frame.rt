@@ -1,0 +1,124 @@
+//! The job `frame`: one raw frame, the whole input.
+ghost use Rattle.std.specs.Prelude.{◌≡◌, ◌+◌, ◌*◌, ◌≤◌, length, MatchResult, OnErr, IfErr};
+ghost use Rattle.narc_world.specs.Outside.{IsPushed, Rose};
+ghost use Rattle.narc_stack.specs.AnswerView.{answer_view};
+ghost use Rattle.narc_packet.specs.PacketView.{view};
+ghost use Rattle.narc_text.specs.Lines.{ok_line};
+ghost use Rattle.narc_text.specs.Printing.{IsPrinted};
+ghost use Rattle.narc_run.specs.Output.{answer_line, refusal_line};
+ghost use Rattle.narc_run.specs.FrameRun.{FrameRun, IsAnswered, IsCut};
+
+use crate::input::{Filled, fill};
+use crate::outcome::Outcome;
+use narc_bits::{MAX_FRAME, Steps};
+use narc_packet::Packet;
+use narc_stack::{Refusal, decode_frame, unbuilt};
+use narc_text::{Page, print_packet, put_decimal};
+use narc_world::{Failed, Sink, Source};
+use std::sync::ledger::Ledger;
+
+/// More octets than the line of a refusal has.
+const REFUSAL: usize = 80;
+
+/// The line of a packet.
+fn print_ok<K: Sink>(packet: &Packet<'_>, page: &mut Page, sink: &mut K) -> Result<(), Failed>
+    ensures printed { IsPrinted result (ok_line (view packet.now)) page.old page.new (K.held sink.old) (K.held sink.new) }
+    ensures later { K.faults sink.old ≤ K.faults sink.new }
+    ensures cause { OnErr result (Rose (K.faults sink.old) (K.faults sink.new)) }
+{
+    page.make_room(3, sink)?;
+    page.put(b"ok ");
+    print_packet(packet, page, sink)?;
+    page.make_room(1, sink)?;
+    page.put(b"\n");
+    Ok(())
+}
+
+/// The line of a refusal.
+fn print_refusal<K: Sink>(refusal: &Refusal, page: &mut Page, sink: &mut K) -> Result<(), Failed>
+    ensures printed { IsPrinted result (refusal_line refusal.now.field refusal.now.at) page.old page.new (K.held sink.old) (K.held sink.new) }
+    ensures later { K.faults sink.old ≤ K.faults sink.new }
+    ensures cause { OnErr result (Rose (K.faults sink.old) (K.faults sink.new)) }
+{
+    page.make_room(REFUSAL, sink)?;
+    page.put(b"refused ");
+    page.put(refusal.field.name().as_bytes());
+    page.put(b" ");
+    put_decimal(page, u64::from(refusal.at));
+    page.put(b"\n");
+    Ok(())
+}
+
+/// The line for a frame.
+fn print_answer<K: Sink>(
+    answer: &Result<Packet<'_>, Refusal>,
+    page: &mut Page,
+    sink: &mut K,
+) -> Result<(), Failed>
+    ensures printed { IsPrinted result (answer_line (answer_view answer.now)) page.old page.new (K.held sink.old) (K.held sink.new) }
+    ensures later { K.faults sink.old ≤ K.faults sink.new }
+    ensures cause { OnErr result (Rose (K.faults sink.old) (K.faults sink.new)) }
+{
+    match answer {
+        Ok(packet) => print_ok(packet, page, sink),
+        Err(refusal) => print_refusal(refusal, page, sink),
+    }
+}
+
+/// Writes the line for a frame.
+fn put_answer<K: Sink>(answer: &Result<Packet<'_>, Refusal>, sink: &mut K) -> Result<(), Failed>
+    ensures pushed { IsPushed result (K.held sink.old) (K.held sink.new) (answer_line (answer_view answer.now)) }
+    ensures later { K.faults sink.old ≤ K.faults sink.new }
+    ensures cause { OnErr result (Rose (K.faults sink.old) (K.faults sink.new)) }
+{
+    let mut page = Page::new();
+    print_answer(answer, &mut page, sink)?;
+    page.flush(sink)
+}
+
+/// Answers a whole frame: its line, and the outcome.
+fn answer_frame<K: Sink, L: Ledger>(
+    octets: &[u8],
+    sink: &mut K,
+    steps: &mut Steps<L>,
+) -> Result<Outcome, Failed>
+    requires { length octets.now ≤ MAX_FRAME }
+    ensures told { MatchResult result (λ outcome. IsAnswered octets.now outcome.status outcome.at (K.held sink.old) (K.held sink.new)) (λ _. IsCut octets.now (K.held sink.old) (K.held sink.new)) }
+    ensures cost { steps.new ≤ steps.old + (16 * length octets.now + 1) }
+    ensures later { K.faults sink.old ≤ K.faults sink.new }
+    ensures cause { OnErr result (Rose (K.faults sink.old) (K.faults sink.new)) }
+{
+    if let Some(at) = unbuilt(octets) {
+        return Ok(Outcome::malformed(u64::from(at)));
+    }
+    let answer = decode_frame(octets, steps);
+    put_answer(&answer, sink)?;
+    match answer {
+        Ok(_) => Ok(Outcome::done()),
+        Err(_) => Ok(Outcome::refused()),
+    }
+}
+
+/// Reads the whole input into the buffer, and answers it.
+pub(crate) fn run_frame<S: Source, K: Sink, L: Ledger>(
+    buffer: &mut [u8],
+    source: &mut S,
+    sink: &mut K,
+    steps: &mut Steps<L>,
+) -> Outcome
+    requires { length buffer.old ≡ 262145 }
+    ensures run { FrameRun (S.left source.old) (S.left source.new) (K.held sink.old) (K.held sink.new) steps.old steps.new result.status result.at }
+    ensures source_later { S.faults source.old ≤ S.faults source.new }
+    ensures sink_later { K.faults sink.old ≤ K.faults sink.new }
+    ensures source_cause { result.status ≡ 5 → Rose (S.faults source.old) (S.faults source.new) }
+    ensures sink_cause { result.status ≡ 6 → Rose (K.faults sink.old) (K.faults sink.new) }
+{
+    match fill(buffer, source) {
+        Filled::Failed(count) => Outcome::source_fault(count as u64),
+        Filled::Full => Outcome::malformed(MAX_FRAME as u64),
+        Filled::Whole(count) => match answer_frame(&buffer[..count], sink, steps) {
+            Ok(outcome) => outcome,
+            Err(_) => Outcome::sink_fault(),
+        },
+    }
+}

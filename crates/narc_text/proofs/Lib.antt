@@ -1,0 +1,3 @@
+pub mod Printings
+pub mod HexWords
+pub mod PacketTexts

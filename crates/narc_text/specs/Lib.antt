@@ -1,0 +1,3 @@
+pub mod PacketText
+pub mod Lines
+pub mod Printing

@@ -1,0 +1,22 @@
+-- Printing by way of a page: what is printed is appended to the page, and the page goes to the sink when it is full.
+use Rattle.std.specs.Prelude.{◌≡◌, ℕ, List, ◌++◌, Option, Result, Ok, Err}
+use Rattle.narc_world.specs.declared.error.Failed.{Failed}
+use Rattle.narc_world.specs.Outside.{Appends}
+
+-- a front of what is gathered went to the sink, and the rest is on the page
+pub record Passes (gathered page : List ℕ) (before after : Option (List ℕ)) : Type 0 where
+  pub pushed : List ℕ
+  pub appended : Appends pushed before after
+  pub split : gathered ≡ pushed ++ page
+
+-- a front of what is gathered went to the sink, which failed
+pub record Stops (gathered : List ℕ) (before after : Option (List ℕ)) : Type 0 where
+  pub pushed : List ℕ
+  pub appended : Appends pushed before after
+  pub lost : List ℕ
+  pub split : gathered ≡ pushed ++ lost
+
+-- a page, and these octets behind it, are gathered
+abbrev pub IsPrinted : Result Unit Failed → (octets page page_after : List ℕ) → (before after : Option (List ℕ)) → Type 0
+IsPrinted (Ok done) octets page page_after before after = Passes (page ++ octets) page_after before after
+IsPrinted (Err e) octets page page_after before after = Stops (page ++ octets) before after

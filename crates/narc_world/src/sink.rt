@@ -1,0 +1,22 @@
+//! Where octets go.
+
+ghost use Rattle.std.specs.Prelude.{◌≤◌, ℕ, List, OnErr, Option};
+ghost use Rattle.narc_world.specs.Outside.{IsPushed, Rose};
+
+use super::error::Failed;
+
+/// Where octets go.
+pub trait Sink {
+    /// The octets taken so far, where the sink tells them.
+    ghost held: { Self → Option (List ℕ) };
+
+    /// How many calls have failed.
+    ghost faults: { Self → ℕ };
+
+    /// Puts the octets at the end of what is held: all of them, or a front of them where the sink
+    /// fails.
+    fn push(&mut self, bytes: &[u8]) -> Result<(), Failed>
+        ensures octets { IsPushed result (held self.old) (held self.new) bytes.now }
+        ensures later { faults self.old ≤ faults self.new }
+        ensures cause { OnErr result (Rose (faults self.old) (faults self.new)) };
+}
