@@ -1,5 +1,5 @@
 -- Numbers and the bits that spell them.
-use Rattle.std.proofs.Common.{◌≡◌, ℕ, suc, zero, ◌+◌, ◌*◌, ◌-◌, ◌<◌, ◌≤◌, ◌/◌, ◌%◌, ◌^◌, Bool, true, false, cond, eqb, List, [], ◌∷◌, ◌++◌, length, take, set, get_or, refl, sym, ap, ◌∙◌, subst, append_assoc, arith, length-append}
+use Rattle.std.proofs.Common.{◌≡◌, ℕ, suc, zero, ◌+◌, ◌*◌, ◌-◌, ◌<◌, ◌≤◌, ◌/◌, ◌%◌, ◌^◌, Bool, true, false, cond, eqb, List, [], ◌∷◌, ◌++◌, length, take, set, get_or, refl, sym, ap, ◌∙◌, subst, append_assoc, arith, length-append, length-take}
 use Rattle.std.proofs.Common.{lit<}
 use Rattle.std.proofs.Math.Nat.{pow-succ', mod-eq_of_lt, mod-lt, mul-le-mul_right, mul-add-div_right, div-add-mod'}
 use Rattle.std.proofs.Math.Pow.{pow_mono, pow_pos, pow-add}
@@ -219,3 +219,14 @@ number_of_bits_below bs k h = omega (arith, number_of_bits_lt bs, pow_mono {i = 
 -- the number of one bit more
 pub number_of_bits-more : (bs : List Bool) (i : ℕ) → i < length bs → number_of_bits (take (i + 1) bs) ≡ number_of_bits (take i bs) * 2 + cond (get_or bs i false) 1 0
 number_of_bits-more bs i h = ap number_of_bits (take_more bs i false h) ∙ number_of_bits-push (take i bs) (get_or bs i false)
+
+-- the first n bits, and the number that they spell
+pub take-spelled : (n : ℕ) (b : List Bool) → n ≤ length b → take n b ≡ bits_of_number n (number_of_bits (take n b))
+take-spelled n b h =
+    let size : length (take n b) ≡ n = omega (arith, length-take n b) in
+    sym (ap (λ k. bits_of_number k (number_of_bits (take n b))) (sym size) ∙ bits_of_number-number_of_bits (take n b))
+
+pub number_of_bits-take_lt : (n : ℕ) (b : List Bool) → n ≤ length b → number_of_bits (take n b) < 2 ^ n
+number_of_bits-take_lt n b h =
+    let size : length (take n b) ≡ n = omega (arith, length-take n b) in
+    subst (λ k. number_of_bits (take n b) < 2 ^ k) size (number_of_bits_lt (take n b))

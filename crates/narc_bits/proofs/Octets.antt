@@ -1,7 +1,6 @@
 -- Lists whose items are octets.
-use Rattle.std.proofs.Common.{ℕ, zero, suc, ◌<◌, ◌+◌, List, [], ◌∷◌, ◌++◌, take, drop, get_or, lit<}
+use Rattle.std.proofs.Common.{ℕ, zero, suc, ◌<◌, List, [], ◌∷◌, ◌++◌, take, drop, get_or, lit<}
 use Rattle.std.proofs.Math.Nat.{mod-lt}
-use Rattle.std.proofs.Math.Pow.{pow_pos}
 use Rattle.narc_bits.specs.Octets.{IsOctets, big_endian}
 
 -- by index, as the check knows a slice of the program

@@ -1,5 +1,5 @@
 -- What is left of a cursor.
-use Rattle.std.proofs.Common.{◌≡◌, ◌+◌, ◌*◌, ◌-◌, ◌/◌, ◌%◌, ◌≤◌, ℕ, List, ◌++◌, length, take, drop, ap, sym, ◌∙◌, arith, length-drop, length-take, take-append-drop}
+use Rattle.std.proofs.Common.{◌≡◌, ◌+◌, ◌*◌, ◌-◌, ◌≤◌, ℕ, List, ◌++◌, length, take, drop, ap, sym, ◌∙◌, arith, length-drop, length-take, take-append-drop}
 use Rattle.std.proofs.lemmas.List.{drop-drop}
 use Rattle.narc_bits.specs.Bits.{bits}
 use Rattle.narc_bits.specs.Scan.{Scan, bits_left, advance}

@@ -1,5 +1,5 @@
 -- What each format and each tail promises of its meaning, where the conditions of its rules hold.
-use Rattle.std.specs.Prelude.{ℕ, ◌≡◌, ◌*◌, ◌%◌, ◌≤◌, ◌⊎◌, Bool, true, List, ◌++◌, length, IsTrue}
+use Rattle.std.specs.Prelude.{◌≡◌, ◌*◌, ◌%◌, ◌≤◌, ◌⊎◌, Bool, true, List, ◌++◌, length, IsTrue}
 use Rattle.narc_format.specs.declared.fault.Fault.{Fault}
 use Rattle.narc_format.specs.Meaning.{Meaning}
 

@@ -1,6 +1,6 @@
 use borrow.Rule.Slice.PartMut.{put_mid}
-use Rattle.std.proofs.Common.{◌+◌, ◌-◌, ◌/◌, length, ap, ◌∙◌, sym, arith}
-use Rattle.narc_bits.specs.Bits.{bits, overlay}
+use Rattle.std.proofs.Common.{◌+◌, ◌-◌, ◌/◌, length, ap, ◌∙◌, arith}
+use Rattle.narc_bits.specs.Bits.{bits}
 use Rattle.narc_bits.proofs.Spelled.{bits-put_mid}
 use Rattle.narc_bits.proofs.writer.Writer.put_slice.Goals as goal
 
