@@ -1,2 +1,3 @@
 pub mod Words
 pub mod FixedOctets
+pub mod Flags

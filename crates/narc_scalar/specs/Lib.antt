@@ -2,5 +2,13 @@ pub mod Word
 pub mod WordLaws
 pub mod Constant
 pub mod ConstantLaws
+pub mod Flag
+pub mod FlagLaws
 pub mod Octets
 pub mod OctetsLaws
+pub mod Rejected
+pub mod RejectedLaws
+pub mod Test
+pub mod TestLaws
+pub mod Names
+pub mod NamesLaws
