@@ -5,3 +5,4 @@ pub mod Reading
 pub mod Laws
 pub mod Widths
 pub mod Holes
+pub mod Exactness

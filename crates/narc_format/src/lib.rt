@@ -6,6 +6,7 @@ pub mod field;
 mod format;
 mod gather;
 mod holed;
+pub mod laws;
 mod tail;
 mod wide;
 
