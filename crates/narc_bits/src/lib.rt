@@ -15,3 +15,6 @@ pub use limits::MAX_FRAME;
 pub use short::Short;
 pub use steps::Steps;
 pub use writer::Writer;
+
+#[cfg(test)]
+mod tests;
