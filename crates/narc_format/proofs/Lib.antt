@@ -1,3 +1,4 @@
 pub mod Takes
 pub mod Formats
 pub mod Tails
+pub mod Reading

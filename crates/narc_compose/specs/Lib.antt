@@ -1,0 +1,4 @@
+pub mod Changed
+pub mod ChangedLaws
+pub mod Named
+pub mod NamedLaws

@@ -1,0 +1,75 @@
+//! A format whose unnamed faults get a field.
+ghost use Rattle.narc_compose.specs.Named.{named};
+ghost use Rattle.narc_compose.specs.NamedLaws.{named_laws, named_tail_laws};
+
+use narc_bits::{Input, Steps, Writer};
+use narc_format::{Fault, Field, Format, Tail};
+use std::marker::PhantomData;
+use std::sync::ledger::Ledger;
+
+/// F, with the field of this number for its unnamed faults.
+pub struct Named<F, const FIELD: u8>(PhantomData<F>);
+
+impl<I: Input, F: Format<I>, const FIELD: u8> Format<I> for Named<F, FIELD> {
+    type Ctx = F::Ctx;
+
+    type Value = F::Value;
+
+    ghost meaning = { named FIELD F.meaning };
+
+    #[tactic(auto, unfolding(crate::specs::Named::named))]
+    fn read<L: Ledger>(
+        ctx: F::Ctx,
+        cursor: &mut I,
+        steps: &mut Steps<L>,
+    ) -> Result<F::Value, Fault> {
+        match F::read(ctx, cursor, steps) {
+            Ok(value) => Ok(value),
+            Err(fault) => Err(fault.named(Field::of(FIELD).unwrap())),
+        }
+    }
+
+    #[tactic(auto, unfolding(crate::specs::Named::named))]
+    fn size(ctx: F::Ctx, value: &F::Value) -> usize {
+        F::size(ctx, value)
+    }
+
+    #[tactic(auto, unfolding(crate::specs::Named::named))]
+    fn write(ctx: F::Ctx, value: &F::Value, room: &mut [u8], writer: &mut Writer) {
+        F::write(ctx, value, room, writer)
+    }
+
+    ghost laws = { named_laws FIELD F.meaning F.laws };
+}
+
+impl<I: Input, F: Tail<I>, const FIELD: u8> Tail<I> for Named<F, FIELD> {
+    type Ctx = F::Ctx;
+
+    type Value = F::Value;
+
+    ghost meaning = { named FIELD F.meaning };
+
+    #[tactic(auto, unfolding(crate::specs::Named::named))]
+    fn read<L: Ledger>(
+        ctx: F::Ctx,
+        cursor: &mut I,
+        steps: &mut Steps<L>,
+    ) -> Result<F::Value, Fault> {
+        match F::read(ctx, cursor, steps) {
+            Ok(value) => Ok(value),
+            Err(fault) => Err(fault.named(Field::of(FIELD).unwrap())),
+        }
+    }
+
+    #[tactic(auto, unfolding(crate::specs::Named::named))]
+    fn size(ctx: F::Ctx, value: &F::Value) -> usize {
+        F::size(ctx, value)
+    }
+
+    #[tactic(auto, unfolding(crate::specs::Named::named))]
+    fn write(ctx: F::Ctx, value: &F::Value, room: &mut [u8], writer: &mut Writer) {
+        F::write(ctx, value, room, writer)
+    }
+
+    ghost laws = { named_tail_laws FIELD F.meaning F.laws };
+}
