@@ -3,6 +3,8 @@
 
 mod either;
 mod named;
+mod strip;
 
 pub use either::Either;
 pub use named::Named;
+pub use strip::{Choose, Strip};

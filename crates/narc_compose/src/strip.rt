@@ -1,0 +1,103 @@
+//! A format of raw values, seen as others.
+ghost use Rattle.std.specs.Prelude.{◌≡◌};
+ghost use Rattle.narc_compose.specs.Strip.{stripped};
+ghost use Rattle.narc_compose.specs.StripLaws.{stripped_laws, stripped_tail_laws};
+
+use narc_bits::{Input, Steps, Writer};
+use narc_format::{Fault, Format, Tail};
+use std::marker::PhantomData;
+use std::sync::ledger::Ledger;
+
+/// How raw values are seen, and which of them is written, in a context.
+pub trait Choose<C, W> {
+    type Value: Drop;
+
+    ghost strip_of: { W → Self.Value };
+
+    ghost choose_of: { C → Self.Value → W };
+
+    /// Two values are the same, wherever their slices lie.
+    ghost alike: { Self.Value → Self.Value → Type 0 };
+
+    /// The value that a raw value is seen as.
+    fn strip(raw: W) -> Self::Value
+        ensures { result ≡ strip_of raw };
+
+    /// The raw value that is written for a value.
+    fn choose(ctx: C, value: &Self::Value) -> W
+        ensures { result ≡ choose_of ctx value.now };
+}
+
+/// F, whose raw values are seen as M says.
+pub struct Strip<F, M> {
+    format: PhantomData<F>,
+    choice: PhantomData<M>,
+}
+
+impl<I: Input, F: Format<I>, M: Choose<F::Ctx, F::Value>> Format<I> for Strip<F, M> {
+    type Ctx = F::Ctx;
+
+    type Value = M::Value;
+
+    ghost meaning = { stripped M.strip_of M.choose_of M.alike F.meaning };
+
+    #[tactic(auto, unfolding(crate::specs::Strip::stripped))]
+    fn read<L: Ledger>(
+        ctx: F::Ctx,
+        cursor: &mut I,
+        steps: &mut Steps<L>,
+    ) -> Result<M::Value, Fault> {
+        match F::read(ctx, cursor, steps) {
+            Ok(raw) => Ok(M::strip(raw)),
+            Err(fault) => Err(fault),
+        }
+    }
+
+    #[tactic(auto, unfolding(crate::specs::Strip::stripped))]
+    fn size(ctx: F::Ctx, value: &M::Value) -> usize {
+        let raw = M::choose(ctx, value);
+        F::size(ctx, &raw)
+    }
+
+    #[tactic(auto, unfolding(crate::specs::Strip::stripped))]
+    fn write(ctx: F::Ctx, value: &M::Value, room: &mut [u8], writer: &mut Writer) {
+        let raw = M::choose(ctx, value);
+        F::write(ctx, &raw, room, writer);
+    }
+
+    ghost laws = { stripped_laws M.strip_of M.choose_of M.alike F.meaning F.laws };
+}
+
+impl<I: Input, F: Tail<I>, M: Choose<F::Ctx, F::Value>> Tail<I> for Strip<F, M> {
+    type Ctx = F::Ctx;
+
+    type Value = M::Value;
+
+    ghost meaning = { stripped M.strip_of M.choose_of M.alike F.meaning };
+
+    #[tactic(auto, unfolding(crate::specs::Strip::stripped))]
+    fn read<L: Ledger>(
+        ctx: F::Ctx,
+        cursor: &mut I,
+        steps: &mut Steps<L>,
+    ) -> Result<M::Value, Fault> {
+        match F::read(ctx, cursor, steps) {
+            Ok(raw) => Ok(M::strip(raw)),
+            Err(fault) => Err(fault),
+        }
+    }
+
+    #[tactic(auto, unfolding(crate::specs::Strip::stripped))]
+    fn size(ctx: F::Ctx, value: &M::Value) -> usize {
+        let raw = M::choose(ctx, value);
+        F::size(ctx, &raw)
+    }
+
+    #[tactic(auto, unfolding(crate::specs::Strip::stripped))]
+    fn write(ctx: F::Ctx, value: &M::Value, room: &mut [u8], writer: &mut Writer) {
+        let raw = M::choose(ctx, value);
+        F::write(ctx, &raw, room, writer);
+    }
+
+    ghost laws = { stripped_tail_laws M.strip_of M.choose_of M.alike F.meaning F.laws };
+}
