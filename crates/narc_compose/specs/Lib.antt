@@ -4,3 +4,8 @@ pub mod Named
 pub mod NamedLaws
 pub mod Strip
 pub mod StripLaws
+pub mod Seq
+pub mod Conditions
+pub mod Cuts
+pub mod SeqLaws
+pub mod SeqTailLaws

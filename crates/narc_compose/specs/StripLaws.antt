@@ -1,5 +1,5 @@
 -- The laws of a format of raw values that are seen as others.
-use Rattle.std.specs.Prelude.{◌≡◌, ◌⊎◌, List, Bool, refl}
+use Rattle.std.specs.Prelude.{refl}
 use Rattle.std.proofs.Common.{subst, inl, inr}
 use Rattle.narc_format.specs.Meaning.{Meaning}
 use Rattle.narc_format.specs.Laws.{Laws, TailLaws}

@@ -3,8 +3,12 @@
 
 mod either;
 mod named;
+mod seq;
+mod seq_tail;
 mod strip;
 
 pub use either::Either;
 pub use named::Named;
+pub use seq::{Carry, Seq};
+pub use seq_tail::SeqTail;
 pub use strip::{Choose, Strip};

@@ -1,5 +1,5 @@
 -- What follows from what a reading did.
-use Rattle.std.proofs.Common.{◌≡◌, ℕ, ◌+◌, ◌*◌, ◌≤◌, List, ◌++◌, length, drop, sym, ap, ◌∙◌, arith, length-append, mul-le-mul_right}
+use Rattle.std.proofs.Common.{◌≡◌, ℕ, ◌+◌, ◌*◌, ◌≤◌, ◌++◌, length, drop, sym, ap, ◌∙◌, arith, length-append, mul-le-mul_right}
 use Rattle.std.proofs.lemmas.List.{drop_at}
 use Rattle.narc_bits.specs.Scan.{Scan, bits_left}
 use Rattle.narc_bits.proofs.Scans.{bits_left-advance}

@@ -1,0 +1,77 @@
+//! Two formats, one behind the other.
+ghost use Rattle.std.specs.Prelude.{◌≡◌};
+ghost use Rattle.narc_compose.specs.Seq.{seq};
+ghost use Rattle.narc_compose.specs.SeqLaws.{seq_laws};
+
+use narc_bits::{Input, Steps, Writer};
+use narc_format::{Fault, Format};
+use std::marker::PhantomData;
+use std::sync::ledger::Ledger;
+
+/// The contexts of two parts.
+pub trait Carry<V, A, B> {
+    type Ctx: Copy;
+
+    ghost first_of: { Self.Ctx → A };
+
+    ghost second_of: { Self.Ctx → V → B };
+
+    /// Each number of the context lies in the range of its type.
+    ghost valid: { Self.Ctx → Type 0 };
+
+    fn first(ctx: Self::Ctx) -> A
+        ensures { result ≡ first_of ctx };
+
+    fn second(ctx: Self::Ctx, value: &V) -> B
+        ensures { result ≡ second_of ctx value.now };
+}
+
+/// A, then B in a context that may depend on the value of A.
+pub struct Seq<A, B, K> {
+    first: PhantomData<A>,
+    second: PhantomData<B>,
+    carry: PhantomData<K>,
+}
+
+impl<I: Input, A: Format<I>, B: Format<I>, K: Carry<A::Value, A::Ctx, B::Ctx>> Format<I>
+    for Seq<A, B, K> {
+    type Ctx = K::Ctx;
+
+    type Value = (A::Value, B::Value);
+
+    ghost meaning = { seq K.first_of K.second_of K.valid A.meaning B.meaning };
+
+    #[tactic(auto, unfolding(crate::specs::Seq::seq))]
+    fn read<L: Ledger>(
+        ctx: K::Ctx,
+        cursor: &mut I,
+        steps: &mut Steps<L>,
+    ) -> Result<(A::Value, B::Value), Fault> {
+        let from = cursor.place();
+        match A::read(K::first(ctx), cursor, steps) {
+            Ok(a) => {
+                let at = cursor.place();
+                match B::read(K::second(ctx, &a), cursor, steps) {
+                    Ok(b) => Ok((a, b)),
+                    Err(fault) => Err(fault.later_by((at - from) as u32)),
+                }
+            }
+            Err(fault) => Err(fault),
+        }
+    }
+
+    #[tactic(auto, unfolding(crate::specs::Seq::seq))]
+    fn size(ctx: K::Ctx, value: &(A::Value, B::Value)) -> usize {
+        let first = A::size(K::first(ctx), &value.0);
+        let second = B::size(K::second(ctx, &value.0), &value.1);
+        first + second
+    }
+
+    #[tactic(auto, unfolding(crate::specs::Seq::seq))]
+    fn write(ctx: K::Ctx, value: &(A::Value, B::Value), room: &mut [u8], writer: &mut Writer) {
+        A::write(K::first(ctx), &value.0, room, writer);
+        B::write(K::second(ctx, &value.0), &value.1, room, writer);
+    }
+
+    ghost laws = { seq_laws K.first_of K.second_of K.valid A.meaning B.meaning A.laws B.laws };
+}
