@@ -9,3 +9,6 @@ pub mod Conditions
 pub mod Cuts
 pub mod SeqLaws
 pub mod SeqTailLaws
+pub mod Union
+pub mod UnionLaws
+pub mod UnionTailLaws

@@ -6,9 +6,11 @@ mod named;
 mod seq;
 mod seq_tail;
 mod strip;
+mod union;
 
 pub use either::Either;
 pub use named::Named;
 pub use seq::{Carry, Seq};
 pub use seq_tail::SeqTail;
 pub use strip::{Choose, Strip};
+pub use union::{Pick, Union};
