@@ -2,3 +2,4 @@ pub mod Takes
 pub mod Formats
 pub mod Tails
 pub mod Reading
+pub mod Widths

@@ -49,5 +49,5 @@ pub constant_is_wide : (n v : ℕ) → IsWide (constant n v) n
 unfolding constant
 constant_is_wide n v = record {
   sized = λ s c u b p. ap length p ∙ length-bits_of_number n v;
-  refused = λ s c valid b h. record { fault = unnamed_fault; refused = (few_bits n v b h, refl) };
+  refused = λ s c valid b fits h. record { fault = unnamed_fault; refused = (few_bits n v b h, refl) };
 }

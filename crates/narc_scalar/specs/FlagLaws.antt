@@ -43,5 +43,5 @@ pub flag_is_wide : IsWide flag 1
 unfolding flag
 flag_is_wide = record {
   sized = λ s c v b p. ap length p;
-  refused = λ s c valid b h. record { fault = unnamed_fault; refused = (no_bit b (omega arith), refl) };
+  refused = λ s c valid b fits h. record { fault = unnamed_fault; refused = (no_bit b (omega arith), refl) };
 }

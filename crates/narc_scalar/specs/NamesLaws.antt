@@ -60,5 +60,5 @@ module _ {V : Type 0} (number : V → ℕ) (F : Meaning (Unit {0}) ℕ) where
   unfolding enumerated
   enumerated_is_wide width W = record {
     sized = λ s c v b p. W.sized s.format tt (number v) b p.1;
-    refused = λ s c valid b h. let r = W.refused s.format tt valid b h in record { fault = r.fault; refused = inl r.refused };
+    refused = λ s c valid b fits h. let r = W.refused s.format tt valid b fits h in record { fault = r.fault; refused = inl r.refused };
   }

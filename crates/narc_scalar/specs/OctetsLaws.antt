@@ -42,5 +42,5 @@ pub fixed_octets_is_wide : (n : ℕ) → IsWide (fixed_octets n) (8 * n)
 unfolding fixed_octets
 fixed_octets_is_wide n = record {
   sized = λ s c v b p. omega (arith, ap length p.is, length-bits v, p.size);
-  refused = λ s c valid b h. record { fault = unnamed_fault; refused = (h, refl) };
+  refused = λ s c valid b fits h. record { fault = unnamed_fault; refused = (h, refl) };
 }

@@ -34,5 +34,5 @@ module _ {C V : Type 0} (holds : C → V → Bool) (F : Meaning (Unit {0}) V) wh
   unfolding tested
   tested_is_wide width W = record {
     sized = λ s c v b p. W.sized s.format tt v b p.0;
-    refused = λ s c valid b h. let r = W.refused s.format tt valid b h in record { fault = r.fault; refused = inl r.refused };
+    refused = λ s c valid b fits h. let r = W.refused s.format tt valid b fits h in record { fault = r.fault; refused = inl r.refused };
   }

@@ -43,5 +43,5 @@ pub word_is_wide : (n : ℕ) → IsWide (word n) n
 unfolding word
 word_is_wide n = record {
   sized = λ s c v b p. ap length p.1 ∙ length-bits_of_number n v;
-  refused = λ s c valid b h. record { fault = unnamed_fault; refused = (h, refl) };
+  refused = λ s c valid b fits h. record { fault = unnamed_fault; refused = (h, refl) };
 }
