@@ -12,3 +12,6 @@ pub mod SeqTailLaws
 pub mod Union
 pub mod UnionLaws
 pub mod UnionTailLaws
+pub mod Whole
+pub mod WholeLaws
+pub mod SeqHoles

@@ -1,8 +1,10 @@
 -- The laws of two formats, one behind the other.
-use Rattle.std.specs.Prelude.{◌≡◌, ◌⊎◌, Bool, ◌||◌, List, ◌++◌, length, refl}
+use Rattle.std.specs.Prelude.{ℕ, ◌+◌, ◌≡◌, ◌⊎◌, Bool, ◌||◌, List, ◌++◌, length, refl}
 use Rattle.std.proofs.Common.{sym, ap, ◌∙◌, subst, arith, inl, inr, length-append, append_assoc}
 use Rattle.narc_format.specs.Meaning.{Meaning}
 use Rattle.narc_format.specs.Laws.{Laws, Fits, HasFront, IsRefused}
+use Rattle.narc_format.specs.Widths.{IsWide}
+use Rattle.narc_format.proofs.Widths.{wide-sized}
 use Rattle.narc_compose.specs.Seq.{Joined, SeqSound, seq}
 use Rattle.narc_compose.specs.Conditions.{and_left, and_right, or_left, or_right}
 use Rattle.narc_compose.specs.Cuts.{cut, behind, refused_later, admitted_in_order, spelling_in_order, one_fault_in_order, within_in_order, ready, fits_behind}
@@ -60,3 +62,8 @@ module _ {C CA CB VA VB : Type 0} (first : C → CA) (second : C → VA → CB) 
         let back = LB.whole_octets s.second_sound (and_right A.whole B.whole w) (second c v.0) v.1 p.back p.second in
         omega (arith, front, back, ap length p.joined, length-append p.front p.back);
   }
+
+  pub seq_is_wide : (m n : ℕ) → IsWide A m → IsWide B n → IsWide (seq first second valid A B) (m + n)
+  unfolding seq
+  seq_is_wide m n V W = wide-sized seq_laws (λ s c v b p.
+      omega (arith, ap length p.joined, length-append p.front p.back, V.sized s.first_sound (first c) v.0 p.front p.first, W.sized s.second_sound (second c v.0) v.1 p.back p.second))

@@ -1,8 +1,11 @@
 -- The laws of a format of raw values that are seen as others.
-use Rattle.std.specs.Prelude.{refl}
+use Rattle.std.specs.Prelude.{ℕ, refl}
 use Rattle.std.proofs.Common.{subst, inl, inr}
 use Rattle.narc_format.specs.Meaning.{Meaning}
 use Rattle.narc_format.specs.Laws.{Laws, TailLaws}
+use Rattle.narc_format.specs.Widths.{IsWide}
+use Rattle.narc_format.specs.Holes.{IsHoled}
+use Rattle.narc_format.proofs.Widths.{wide-sized}
 use Rattle.narc_compose.specs.Strip.{Raw, Chosen, StripSound, stripped}
 
 module _ {C W V : Type 0} (strip : W → V) (choose : C → V → W) (alike : V → V → Type 0) (F : Meaning C W) where
@@ -41,4 +44,15 @@ module _ {C W V : Type 0} (strip : W → V) (choose : C → V → W) (alike : V 
     never_both = λ s c v b f p q. L.never_both s.part_sound c p.raw b f p.holds q;
     one_fault = λ s. L.one_fault s.part_sound;
     within = λ s. L.within s.part_sound;
+  }
+
+  pub stripped_is_wide : (width : ℕ) → Laws F → IsWide F width → IsWide (stripped strip choose alike F) width
+  unfolding stripped
+  stripped_is_wide width L W = wide-sized (stripped_laws L) (λ s c v b p. W.sized s.part_sound c p.raw b p.holds)
+
+  pub stripped_is_holed : (hole : ℕ) → IsHoled F hole → IsHoled (stripped strip choose alike F) hole
+  unfolding stripped
+  stripped_is_holed hole H = record {
+    inside = λ s c v b p. H.inside s.part_sound c p.raw b p.holds;
+    free = λ s c v b word p size. record { raw = p.raw; holds = H.free s.part_sound c p.raw b word p.holds size; is = p.is };
   }

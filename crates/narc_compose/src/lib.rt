@@ -7,6 +7,7 @@ mod seq;
 mod seq_tail;
 mod strip;
 mod union;
+mod whole;
 
 pub use either::Either;
 pub use named::Named;
@@ -14,3 +15,4 @@ pub use seq::{Carry, Seq};
 pub use seq_tail::SeqTail;
 pub use strip::{Choose, Strip};
 pub use union::{Pick, Union};
+pub use whole::Whole;

@@ -1,9 +1,9 @@
 //! A format whose unnamed faults get a field.
 ghost use Rattle.narc_compose.specs.Named.{named};
-ghost use Rattle.narc_compose.specs.NamedLaws.{named_laws, named_tail_laws};
+ghost use Rattle.narc_compose.specs.NamedLaws.{named_laws, named_tail_laws, named_is_wide, named_is_holed};
 
 use narc_bits::{Input, Steps, Writer};
-use narc_format::{Fault, Field, Format, Tail};
+use narc_format::{Fault, Field, Format, Holed, HoledTail, Tail, Wide};
 use std::marker::PhantomData;
 use std::sync::ledger::Ledger;
 
@@ -72,4 +72,37 @@ impl<I: Input, F: Tail<I>, const FIELD: u8> Tail<I> for Named<F, FIELD> {
     }
 
     ghost laws = { named_tail_laws FIELD F.meaning F.laws };
+}
+
+impl<I: Input, F: Wide<I>, const FIELD: u8> Wide<I> for Named<F, FIELD> {
+    ghost width_of = { F.width_of };
+
+    #[tactic(auto, unfolding(crate::specs::Named::named))]
+    fn width() -> u32 {
+        F::width()
+    }
+
+    ghost wide = { named_is_wide FIELD F.width_of F.meaning F.laws F.wide };
+}
+
+impl<I: Input, F: Holed<I>, const FIELD: u8> Holed<I> for Named<F, FIELD> {
+    ghost hole_of = { F.hole_of };
+
+    #[tactic(auto, unfolding(crate::specs::Named::named))]
+    fn hole() -> usize {
+        F::hole()
+    }
+
+    ghost holed = { named_is_holed FIELD F.hole_of F.meaning F.holed };
+}
+
+impl<I: Input, F: HoledTail<I>, const FIELD: u8> HoledTail<I> for Named<F, FIELD> {
+    ghost hole_of = { F.hole_of };
+
+    #[tactic(auto, unfolding(crate::specs::Named::named))]
+    fn hole() -> usize {
+        F::hole()
+    }
+
+    ghost holed = { named_is_holed FIELD F.hole_of F.meaning F.holed };
 }

@@ -1,10 +1,11 @@
 //! Two formats, one behind the other.
-ghost use Rattle.std.specs.Prelude.{◌≡◌};
+ghost use Rattle.std.specs.Prelude.{◌≡◌, ◌+◌};
 ghost use Rattle.narc_compose.specs.Seq.{seq};
-ghost use Rattle.narc_compose.specs.SeqLaws.{seq_laws};
+ghost use Rattle.narc_compose.specs.SeqLaws.{seq_laws, seq_is_wide};
+ghost use Rattle.narc_compose.specs.SeqHoles.{seq_is_holed};
 
 use narc_bits::{Input, Steps, Writer};
-use narc_format::{Fault, Format};
+use narc_format::{Fault, Format, Holed, Wide};
 use std::marker::PhantomData;
 use std::sync::ledger::Ledger;
 
@@ -74,4 +75,28 @@ impl<I: Input, A: Format<I>, B: Format<I>, K: Carry<A::Value, A::Ctx, B::Ctx>> F
     }
 
     ghost laws = { seq_laws K.first_of K.second_of K.valid A.meaning B.meaning A.laws B.laws };
+}
+
+impl<I: Input, A: Wide<I>, B: Wide<I>, K: Carry<A::Value, A::Ctx, B::Ctx>> Wide<I>
+    for Seq<A, B, K> {
+    ghost width_of = { A.width_of + B.width_of };
+
+    #[tactic(auto, unfolding(crate::specs::Seq::seq))]
+    fn width() -> u32 {
+        A::width() + B::width()
+    }
+
+    ghost wide = { seq_is_wide K.first_of K.second_of K.valid A.meaning B.meaning A.laws B.laws A.width_of B.width_of A.wide B.wide };
+}
+
+impl<I: Input, A: Holed<I>, B: Format<I>, K: Carry<A::Value, A::Ctx, B::Ctx>> Holed<I>
+    for Seq<A, B, K> {
+    ghost hole_of = { A.hole_of };
+
+    #[tactic(auto, unfolding(crate::specs::Seq::seq))]
+    fn hole() -> usize {
+        A::hole()
+    }
+
+    ghost holed = { seq_is_holed K.first_of K.second_of K.valid A.meaning B.meaning A.hole_of A.holed };
 }

@@ -1,10 +1,11 @@
 //! A format, and behind it a tail.
 ghost use Rattle.narc_compose.specs.Seq.{seq_tail};
 ghost use Rattle.narc_compose.specs.SeqTailLaws.{seq_tail_laws};
+ghost use Rattle.narc_compose.specs.SeqHoles.{seq_tail_is_holed};
 
 use crate::seq::Carry;
 use narc_bits::{Input, Steps, Writer};
-use narc_format::{Fault, Format, Tail};
+use narc_format::{Fault, Format, Holed, HoledTail, Tail};
 use std::marker::PhantomData;
 use std::sync::ledger::Ledger;
 
@@ -56,4 +57,16 @@ impl<I: Input, A: Format<I>, B: Tail<I>, K: Carry<A::Value, A::Ctx, B::Ctx>> Tai
     }
 
     ghost laws = { seq_tail_laws K.first_of K.second_of K.valid A.meaning B.meaning A.laws B.laws };
+}
+
+impl<I: Input, A: Holed<I>, B: Tail<I>, K: Carry<A::Value, A::Ctx, B::Ctx>> HoledTail<I>
+    for SeqTail<A, B, K> {
+    ghost hole_of = { A.hole_of };
+
+    #[tactic(auto, unfolding(crate::specs::Seq::seq_tail))]
+    fn hole() -> usize {
+        A::hole()
+    }
+
+    ghost holed = { seq_tail_is_holed K.first_of K.second_of K.valid A.meaning B.meaning A.hole_of A.holed };
 }

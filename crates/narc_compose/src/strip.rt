@@ -1,10 +1,10 @@
 //! A format of raw values, seen as others.
 ghost use Rattle.std.specs.Prelude.{◌≡◌};
 ghost use Rattle.narc_compose.specs.Strip.{stripped};
-ghost use Rattle.narc_compose.specs.StripLaws.{stripped_laws, stripped_tail_laws};
+ghost use Rattle.narc_compose.specs.StripLaws.{stripped_laws, stripped_tail_laws, stripped_is_wide, stripped_is_holed};
 
 use narc_bits::{Input, Steps, Writer};
-use narc_format::{Fault, Format, Tail};
+use narc_format::{Fault, Format, Holed, HoledTail, Tail, Wide};
 use std::marker::PhantomData;
 use std::sync::ledger::Ledger;
 
@@ -100,4 +100,37 @@ impl<I: Input, F: Tail<I>, M: Choose<F::Ctx, F::Value>> Tail<I> for Strip<F, M> 
     }
 
     ghost laws = { stripped_tail_laws M.strip_of M.choose_of M.alike F.meaning F.laws };
+}
+
+impl<I: Input, F: Wide<I>, M: Choose<F::Ctx, F::Value>> Wide<I> for Strip<F, M> {
+    ghost width_of = { F.width_of };
+
+    #[tactic(auto, unfolding(crate::specs::Strip::stripped))]
+    fn width() -> u32 {
+        F::width()
+    }
+
+    ghost wide = { stripped_is_wide M.strip_of M.choose_of M.alike F.meaning F.width_of F.laws F.wide };
+}
+
+impl<I: Input, F: Holed<I>, M: Choose<F::Ctx, F::Value>> Holed<I> for Strip<F, M> {
+    ghost hole_of = { F.hole_of };
+
+    #[tactic(auto, unfolding(crate::specs::Strip::stripped))]
+    fn hole() -> usize {
+        F::hole()
+    }
+
+    ghost holed = { stripped_is_holed M.strip_of M.choose_of M.alike F.meaning F.hole_of F.holed };
+}
+
+impl<I: Input, F: HoledTail<I>, M: Choose<F::Ctx, F::Value>> HoledTail<I> for Strip<F, M> {
+    ghost hole_of = { F.hole_of };
+
+    #[tactic(auto, unfolding(crate::specs::Strip::stripped))]
+    fn hole() -> usize {
+        F::hole()
+    }
+
+    ghost holed = { stripped_is_holed M.strip_of M.choose_of M.alike F.meaning F.hole_of F.holed };
 }
