@@ -6,6 +6,8 @@ mod named;
 mod seq;
 mod seq_tail;
 mod strip;
+#[cfg(test)]
+mod tests;
 mod union;
 mod whole;
 
