@@ -1,5 +1,6 @@
 //! What can go wrong outside the program.
 
+use std::alloc::AllocError;
 use thiserror::Error;
 
 /// A source or a sink did not do what it was asked.
@@ -11,3 +12,9 @@ pub struct Failed;
 #[derive(Debug, Drop, Error)]
 #[error("no memory")]
 pub struct NoMemory;
+
+impl From<AllocError> for NoMemory {
+    fn from(_: AllocError) -> NoMemory {
+        NoMemory
+    }
+}

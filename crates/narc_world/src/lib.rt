@@ -2,14 +2,23 @@
 //! to work in.
 #![tactic(auto)]
 
+mod calls;
 mod error;
+mod memory_sink;
+mod memory_source;
 mod room;
 mod sink;
 mod source;
+mod std_sink;
+mod std_source;
 mod words;
 
 pub use error::{Failed, NoMemory};
+pub use memory_sink::MemorySink;
+pub use memory_source::MemorySource;
 pub use room::Room;
 pub use sink::Sink;
 pub use source::{Pulled, Source};
+pub use std_sink::StdSink;
+pub use std_source::StdSource;
 pub use words::Words;

@@ -30,5 +30,19 @@ fn zeros(alloc: Global, count: usize) -> Result<Vec<u8>, NoMemory>
     ensures length { IfOk result (λ octets. length octets.items ≡ count) }
     ensures zeros { IfOk result (λ octets. All (λ octet. octet ≡ 0) octets.items) }
 {
-    vec![in alloc; 0; count].map_err(|_| NoMemory)
+    Ok(vec![in alloc; 0; count]?)
+}
+
+#[cfg(test)]
+mod tests {
+    use super::*;
+    use std::test::Fail;
+
+    #[test]
+    fn a_room_has_one_octet_more_than_a_frame(rt: HostRuntime) -> Result<(), Fail> {
+        let room = Room::new(rt.alloc())?;
+        assert_eq!(rt; room.frame.len(), 262_144 + 1);
+        assert!(rt; room.frame.iter().all(|octet| *octet == 0));
+        Ok(())
+    }
 }

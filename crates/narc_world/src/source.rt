@@ -4,7 +4,7 @@ ghost use Rattle.std.specs.Prelude.{◌<◌, ◌≤◌, ℕ, List, Option, lengt
 ghost use Rattle.narc_world.specs.Outside.{HasFailed, IsPulled};
 
 /// What a pull gave.
-#[derive(Drop)]
+#[derive(Debug, Drop, PartialEq)]
 pub enum Pulled {
     /// So many octets, at least one, at the front of the slice.
     Got(usize),

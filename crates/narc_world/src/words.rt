@@ -36,7 +36,7 @@ impl Words {
     pub fn add(&mut self, word: &str) -> Result<(), NoMemory>
         ensures words { self.new ≡ (if is_ok result then self.old ++ word.now ∷ [] else self.old) }
     {
-        let word = String::from_str(self.alloc, word).map_err(|_| NoMemory)?;
+        let word = String::from_str(self.alloc, word)?;
         self.words.push(word).map_err(|_| NoMemory)
     }
 
@@ -53,5 +53,24 @@ impl Words {
         ensures word { result.now ≡ slice_index_or self.now i result.now }
     {
         &self.words[i]
+    }
+}
+
+#[cfg(test)]
+mod tests {
+    use super::*;
+    use std::test::Fail;
+
+    #[test]
+    fn words_keep_their_order(rt: HostRuntime) -> Result<(), Fail> {
+        let mut words = Words::new(rt.alloc());
+        for word in ["trial", "", "7"] {
+            words.add(word)?;
+        }
+        assert_eq!(rt; words.len(), 3);
+        assert_eq!(rt; words.word(0), "trial");
+        assert_eq!(rt; words.word(1), "");
+        assert_eq!(rt; words.word(2), "7");
+        Ok(())
     }
 }

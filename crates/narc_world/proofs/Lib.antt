@@ -1,0 +1,2 @@
+pub mod MemoryPull
+pub mod Written
