@@ -17,3 +17,6 @@ pub use gather::Gather;
 pub use holed::{Holed, HoledTail};
 pub use tail::Tail;
 pub use wide::Wide;
+
+#[cfg(test)]
+mod tests;

@@ -1,0 +1,43 @@
+//! Fields and faults by example.
+use crate::field::{IPV4_CHECKSUM, IPV4_OPTIONS};
+use crate::{Fault, Field};
+
+#[test]
+fn a_field_has_its_number_and_name(rt: HostRuntime) {
+    let names = [
+        (0, "unnamed"),
+        (1, "ethernet.destination"),
+        (8, "arp.operation"),
+        (16, "ipv4.total_length"),
+        (23, "udp.checksum"),
+        (30, "tcp.checksum"),
+    ];
+    for (number, name) in names {
+        match Field::of(number) {
+            Some(field) => {
+                assert_eq!(rt; field.number(), number);
+                assert_eq!(rt; field.name(), name);
+            }
+            None => assert!(rt; false, "{name} has a number"),
+        }
+    }
+    assert!(rt; Field::of(31).is_none());
+}
+
+#[test]
+fn a_fault_of_a_part_gets_its_place_and_its_field_once(rt: HostRuntime) {
+    let fault = Fault::unnamed();
+    assert_eq!(rt; fault.field, Field::unnamed());
+    let options = Field::of(IPV4_OPTIONS).unwrap_or(Field::unnamed());
+    let checksum = Field::of(IPV4_CHECKSUM).unwrap_or(Field::unnamed());
+    let named = fault.later_by(16).named(options);
+    assert_eq!(rt; named.field.name(), "ipv4.options");
+    assert_eq!(rt; named.at, 16);
+    assert_eq!(rt;
+        named.named(checksum),
+        named,
+        "a named fault keeps its field"
+    );
+    assert_eq!(rt; named.at_start().at, 0);
+    assert_eq!(rt; named.at_start().field, options);
+}
