@@ -1,11 +1,16 @@
 -- A format of numbers that have names.
-use Rattle.std.specs.Prelude.{◌≡◌, ◌↔◌, ◌<◌, ◌^◌, ℕ, Option, Some}
+use Rattle.std.specs.Prelude.{◌≡◌, ◌↔◌, ◌<◌, ◌^◌, ℕ, nat_eq, List, [], ◌∷◌, Option, Some, None, if◌then◌else◌}
 use Rattle.narc_format.specs.Meaning.{Meaning}
 use Rattle.narc_scalar.specs.Rejected.{Rejects}
 
 -- a number names a value exactly where it is the value's number
 abbrev pub IsExact : {V : Type 0} → (ℕ → Option V) → (V → ℕ) → Type 0
 IsExact name number = (n : ℕ) → n < 2 ^ 64 → (v : _) → (name n ≡ Some v) ↔ (number v ≡ n)
+
+-- the value of the first row with this number
+abbrev pub named_in : {V : Type 0} → List (ℕ × V) → ℕ → Option V
+named_in [] n = None
+named_in (row ∷ rows) n = if nat_eq n row.0 then Some row.1 else named_in rows n
 
 -- the number is a u64, and that of the value
 pub record IsNumberOf {V : Type 0} (number : V → ℕ) (n : ℕ) (v : V) : Type 0 where

@@ -1,12 +1,26 @@
 -- What a format of numbers that have names promises.
-use Rattle.std.proofs.Common.{◌≡◌, ℕ, ◌<◌, ◌^◌, ◌⊎◌, List, Bool, Option, Some, None, refl, sym, subst, arith, inl, inr}
-use Rattle.std.proofs.lemmas.Bool.{cases_lt}
+use Rattle.std.specs.List.{AllByRecursion}
+use Rattle.std.proofs.Common.{◌∷◌, [], if◌then◌else◌, eqb, true, false, ap, ◌∙◌, ◌≡◌, ℕ, ◌<◌, ◌^◌, ◌⊎◌, List, Bool, Option, Some, None, refl, sym, subst, arith, inl, inr}
+use Rattle.std.proofs.lemmas.Bool.{cases_lt, eqb-true}
 use Rattle.narc_format.specs.Faults.{unnamed_fault}
 use Rattle.narc_format.specs.Meaning.{Meaning}
 use Rattle.narc_format.specs.Laws.{Laws, HasFront, IsRefused}
 use Rattle.narc_format.specs.Widths.{IsWide}
 use Rattle.narc_scalar.specs.RejectedLaws.{one_fault-rejects, within-rejects, never_both-rejects}
-use Rattle.narc_scalar.specs.Names.{enumerated, IsExact, IsNumberOf}
+use Rattle.narc_scalar.specs.Names.{enumerated, IsExact, IsNumberOf, named_in}
+
+-- a table of rows is exact where each row has its value's number, and each value is found by its number
+module _ {V : Type 0} (number : V → ℕ) where
+  found_at : (row : ℕ × V) (later : Option V) (n : ℕ) (v : V) → number row.1 ≡ row.0 → (later ≡ Some v → number v ≡ n) → (same : Bool) → eqb n row.0 ≡ same → (if same then Some row.1 else later) ≡ Some v → number v ≡ n
+  found_at row later n v first rest true h e = let value : row.1 ≡ v = cc in ap number (sym value) ∙ first ∙ sym (eqb-true n row.0 h)
+  found_at row later n v first rest false h e = rest e
+
+  found : (rows : List (ℕ × V)) → AllByRecursion (λ row. number row.1 ≡ row.0) rows → (n : ℕ) (v : V) → named_in rows n ≡ Some v → number v ≡ n
+  found [] all n v e = cc
+  found (row ∷ rows) all n v e = found_at row (named_in rows n) n v all.0 (found rows all.1 n v) (eqb n row.0) refl e
+
+  pub exact_table : (rows : List (ℕ × V)) → AllByRecursion (λ row. number row.1 ≡ row.0) rows → ((v : V) → named_in rows (number v) ≡ Some v) → IsExact (named_in rows) number
+  exact_table rows all each n small v = (found rows all n v, λ e. ap (named_in rows) (sym e) ∙ each v)
 
 module _ {V : Type 0} (name : ℕ → Option V) (number : V → ℕ) (exact : IsExact name number) where
   -- one number names at most one value

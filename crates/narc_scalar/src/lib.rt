@@ -14,3 +14,6 @@ pub use names::{EnumOf, Names};
 pub use octets::{Octets4, Octets6};
 pub use test::{Test, Where};
 pub use word::Word;
+
+#[cfg(test)]
+mod tests;
