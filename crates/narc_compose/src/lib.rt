@@ -3,12 +3,15 @@
 
 mod either;
 mod named;
+mod named_tail;
 mod seq;
 mod seq_tail;
 mod strip;
+mod strip_tail;
 #[cfg(test)]
 mod tests;
 mod union;
+mod union_tail;
 mod whole;
 
 pub use either::Either;

@@ -1,10 +1,10 @@
 //! A format of raw values, seen as others.
 ghost use Rattle.std.specs.Prelude.{◌≡◌};
 ghost use Rattle.narc_compose.specs.Strip.{stripped};
-ghost use Rattle.narc_compose.specs.StripLaws.{stripped_laws, stripped_tail_laws, stripped_is_wide, stripped_is_holed};
+ghost use Rattle.narc_compose.specs.StripLaws.{stripped_laws, stripped_is_wide, stripped_is_holed};
 
 use narc_bits::{Input, Steps, Writer};
-use narc_format::{Fault, Format, Holed, HoledTail, Tail, Wide};
+use narc_format::{Fault, Format, Holed, Wide};
 use std::marker::PhantomData;
 use std::sync::ledger::Ledger;
 
@@ -55,51 +55,15 @@ impl<I: Input, F: Format<I>, M: Choose<F::Ctx, F::Value>> Format<I> for Strip<F,
 
     #[tactic(auto, unfolding(crate::specs::Strip::stripped))]
     fn size(ctx: F::Ctx, value: &M::Value) -> usize {
-        let raw = M::choose(ctx, value);
-        F::size(ctx, &raw)
+        F::size(ctx, &M::choose(ctx, value))
     }
 
     #[tactic(auto, unfolding(crate::specs::Strip::stripped))]
     fn write(ctx: F::Ctx, value: &M::Value, room: &mut [u8], writer: &mut Writer) {
-        let raw = M::choose(ctx, value);
-        F::write(ctx, &raw, room, writer);
+        F::write(ctx, &M::choose(ctx, value), room, writer);
     }
 
     ghost laws = { stripped_laws M.strip_of M.choose_of M.alike F.meaning F.laws };
-}
-
-impl<I: Input, F: Tail<I>, M: Choose<F::Ctx, F::Value>> Tail<I> for Strip<F, M> {
-    type Ctx = F::Ctx;
-
-    type Value = M::Value;
-
-    ghost meaning = { stripped M.strip_of M.choose_of M.alike F.meaning };
-
-    #[tactic(auto, unfolding(crate::specs::Strip::stripped))]
-    fn read<L: Ledger>(
-        ctx: F::Ctx,
-        cursor: &mut I,
-        steps: &mut Steps<L>,
-    ) -> Result<M::Value, Fault> {
-        match F::read(ctx, cursor, steps) {
-            Ok(raw) => Ok(M::strip(raw)),
-            Err(fault) => Err(fault),
-        }
-    }
-
-    #[tactic(auto, unfolding(crate::specs::Strip::stripped))]
-    fn size(ctx: F::Ctx, value: &M::Value) -> usize {
-        let raw = M::choose(ctx, value);
-        F::size(ctx, &raw)
-    }
-
-    #[tactic(auto, unfolding(crate::specs::Strip::stripped))]
-    fn write(ctx: F::Ctx, value: &M::Value, room: &mut [u8], writer: &mut Writer) {
-        let raw = M::choose(ctx, value);
-        F::write(ctx, &raw, room, writer);
-    }
-
-    ghost laws = { stripped_tail_laws M.strip_of M.choose_of M.alike F.meaning F.laws };
 }
 
 impl<I: Input, F: Wide<I>, M: Choose<F::Ctx, F::Value>> Wide<I> for Strip<F, M> {
@@ -114,17 +78,6 @@ impl<I: Input, F: Wide<I>, M: Choose<F::Ctx, F::Value>> Wide<I> for Strip<F, M> 
 }
 
 impl<I: Input, F: Holed<I>, M: Choose<F::Ctx, F::Value>> Holed<I> for Strip<F, M> {
-    ghost hole_of = { F.hole_of };
-
-    #[tactic(auto, unfolding(crate::specs::Strip::stripped))]
-    fn hole() -> usize {
-        F::hole()
-    }
-
-    ghost holed = { stripped_is_holed M.strip_of M.choose_of M.alike F.meaning F.hole_of F.holed };
-}
-
-impl<I: Input, F: HoledTail<I>, M: Choose<F::Ctx, F::Value>> HoledTail<I> for Strip<F, M> {
     ghost hole_of = { F.hole_of };
 
     #[tactic(auto, unfolding(crate::specs::Strip::stripped))]

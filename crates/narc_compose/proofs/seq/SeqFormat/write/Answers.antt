@@ -11,5 +11,5 @@ returns-clause-put g c =
     let A = g.A.Format.meaning in
     let B = g.B.Format.meaning in
     let v = c.args.value.now in
-    put_both (bits c.args.room.now) (bits c.write.new.room) (bits c.write-2.new.room) c.args.writer.now c.write.new.writer
+    put_both {db = g.K.Carry.second_of c.args.ctx c.args.value.now.0} (bits c.args.room.now) (bits c.write.new.room) (bits c.write-2.new.room) c.args.writer.now c.write.new.writer
     (λ k. A.spelling k v.0) (λ k. B.spelling k v.1) c.first.ensures c.second.ensures c.write.ensures.put c.write.ensures.moved c.write-2.ensures.put (omega (arith, c.requires.enough, length-bits c.args.room.now))
