@@ -35,8 +35,10 @@ module _ (s : List ℕ) (fits : length s ≤ 262144) where
   IsAnswered-unbuilt at held e = record {
     found = no_findings;
     are = λ h none. cc;
-    holds = (verdict-fits no_findings ∙ ap (λ u. frame_verdict u no_findings.frame) e,
-        subst (λ l. Appends l held held) (sym (output-fits no_findings ∙ ap (λ u. frame_line u no_findings.frame) e)) (Appends-nil held));
+    holds = (
+      verdict-fits no_findings ∙ ap (λ u. frame_verdict u no_findings.frame) e,
+      subst (λ l. Appends l held held) (sym (output-fits no_findings ∙ ap (λ u. frame_line u no_findings.frame) e)) (Appends-nil held),
+    );
   }
 
   module _ (answer : Answer) (x y : Option (List ℕ)) (built : unbuilt_at s ≡ None) (right : IsAnswer s answer) where

@@ -43,8 +43,19 @@ module _ (words : List (List ℕ)) (is : job words ≡ Some Frame) where
   module _ (input rest : List ℕ) (before after : Option (List ℕ)) (source_before source_after sink_before sink_after steps_before steps_after status at : ℕ) where
     abbrev pub this : Run
     this = record {
-      words = words; input = input; rest = rest; held_before = before; held_after = after; source_before = source_before; source_after = source_after;
-      sink_before = sink_before; sink_after = sink_after; steps_before = steps_before; steps_after = steps_after; status = status; at = at;
+      words = words;
+      input = input;
+      rest = rest;
+      held_before = before;
+      held_after = after;
+      source_before = source_before;
+      source_after = source_after;
+      sink_before = sink_before;
+      sink_after = sink_after;
+      steps_before = steps_before;
+      steps_after = steps_after;
+      status = status;
+      at = at;
     }
 
     pub right_fault : (status ≡ 5 → Rose source_before source_after)
@@ -71,20 +82,29 @@ module _ (words : List (List ℕ)) (is : job words ≡ Some Frame) where
         record {
           front = front;
           done = λ h. absurd (omega (arith, f.told));
-          malformed = λ h. (some, for_frame _ (record {
-            found = no_findings;
-            are = λ fits. absurd (omega (arith, fits, long));
-            holds = (inr (lt-ltb 262144 (length t) long), f.place ∙ ap (λ v. v.at) (sym (verdict-long t no_findings long)),
-                subst (λ l. Appends l before after) (sym (output-long t no_findings long)) (Appends-same before after f.unwritten));
-          }));
+          malformed = λ h. (
+            some,
+            for_frame _ (record {
+              found = no_findings;
+              are = λ fits. absurd (omega (arith, fits, long));
+              holds = (
+                inr (lt-ltb 262144 (length t) long),
+                f.place ∙ ap (λ v. v.at) (sym (verdict-long t no_findings long)),
+                subst (λ l. Appends l before after) (sym (output-long t no_findings long)) (Appends-same before after f.unwritten),
+              );
+            }),
+          );
           source_fault = λ h. absurd (omega (arith, f.told));
           sink_fault = λ h. absurd (omega (arith, f.told));
           steps = for_frame _ (omega (arith, f.steps));
-          complete = λ s k w. (where_none _, for_frame _ (record {
-            found = no_findings;
-            are = λ fits. absurd (omega (arith, fits, longer));
-            holds = f.told ∙ ap (λ v. v.status) (sym (verdict-long input no_findings longer));
-          }));
+          complete = λ s k w. (
+            where_none _,
+            for_frame _ (record {
+              found = no_findings;
+              are = λ fits. absurd (omega (arith, fits, longer));
+              holds = f.told ∙ ap (λ v. v.status) (sym (verdict-long input no_findings longer));
+            }),
+          );
         }
 
     pub right_end : (status ≡ 6 → Rose sink_before sink_after)
@@ -106,19 +126,25 @@ module _ (words : List (List ℕ)) (is : job words ≡ Some Frame) where
               record {
                 front = front;
                 done = λ h. for_frame _ (λ reads. (f.ended, fits, here));
-                malformed = λ h. (some, for_frame _ (record {
-                  found = here.found;
-                  are = here.are;
-                  holds = (inl (f.ended, same ∙ h), sym (ap (λ v. v.at) here.holds.0), here.holds.1);
-                }));
+                malformed = λ h. (
+                  some,
+                  for_frame _ (record {
+                    found = here.found;
+                    are = here.are;
+                    holds = (inl (f.ended, same ∙ h), sym (ap (λ v. v.at) here.holds.0), here.holds.1);
+                  }),
+                );
                 source_fault = λ h. absurd (omega (arith, bound.0, same, h));
                 sink_fault = λ h. absurd (omega (arith, bound.0, same, h));
                 steps = for_frame _ steps;
-                complete = λ s k w. (where_none _, for_frame _ (record {
-                  found = whole.found;
-                  are = whole.are;
-                  holds = sym (ap (λ v. v.status) whole.holds.0);
-                }));
+                complete = λ s k w. (
+                  where_none _,
+                  for_frame _ (record {
+                    found = whole.found;
+                    are = whole.are;
+                    holds = sym (ap (λ v. v.status) whole.holds.0);
+                  }),
+                );
               }
           | inr cut ↦ record {
             front = front;

@@ -1,12 +1,15 @@
 //! The jobs of the command.
 #![tactic(auto)]
 
+mod command;
 mod frame;
 mod input;
 mod job;
 mod outcome;
-mod top;
 mod usage;
 
+pub use command::run;
 pub use outcome::Outcome;
-pub use top::run;
+
+#[cfg(test)]
+mod tests;

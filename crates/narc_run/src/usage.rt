@@ -5,7 +5,8 @@ ghost use Rattle.narc_run.specs.Output.{usage_line};
 
 use narc_world::{Failed, Sink};
 
-const USAGE: &[u8] = b"usage: narc frame|show|check|build|rewrite [SET]...|patch [SET]...|trial SEED COUNT|version\n";
+const USAGE: &[u8] =
+    b"usage: narc frame|show|check|build|rewrite [SET]...|patch [SET]...|trial SEED COUNT|version\n";
 
 /// Writes the usage line.
 pub(crate) fn tell_usage<K: Sink>(sink: &mut K) -> Result<(), Failed>

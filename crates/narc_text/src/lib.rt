@@ -8,3 +8,6 @@ mod words;
 pub use packet::{print_packet, put_packet};
 pub use page::Page;
 pub use words::put_decimal;
+
+#[cfg(test)]
+mod tests;

@@ -33,10 +33,20 @@ pub fn run<S: Source, K: Sink, L: Ledger>(
 
     // Where the source tells its octets: status, place, steps and output are those of the octets.
     ensures octets { Told (S.left source.old) (S.left source.new) (λ input rest. IsRightRun (record {
-        words = words.now; input = input; rest = rest; held_before = K.held sink.old; held_after = K.held sink.new;
-        source_before = S.faults source.old; source_after = S.faults source.new;
-        sink_before = K.faults sink.old; sink_after = K.faults sink.new;
-        steps_before = steps.old; steps_after = steps.new; status = result.status; at = result.at })) }
+      words = words.now;
+      input = input;
+      rest = rest;
+      held_before = K.held sink.old;
+      held_after = K.held sink.new;
+      source_before = S.faults source.old;
+      source_after = S.faults source.new;
+      sink_before = K.faults sink.old;
+      sink_after = K.faults sink.new;
+      steps_before = steps.old;
+      steps_after = steps.new;
+      status = result.status;
+      at = result.at;
+    })) }
 {
     match Job::of(words) {
         None => match tell_usage(sink) {

@@ -1,5 +1,5 @@
 use Rattle.narc_run.proofs.FrameRuns.{job_is, right, writing}
-use Rattle.narc_run.proofs.top.run.Goals as goal
+use Rattle.narc_run.proofs.command.run.Goals as goal
 
 pub returns-in-Ok-new-clause-writing : goal.returns-in-Ok-new-clause-writing
 returns-in-Ok-new-clause-writing g c =
