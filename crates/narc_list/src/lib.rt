@@ -6,3 +6,6 @@ mod pad;
 
 pub use bytes::Bytes;
 pub use pad::Pad;
+
+#[cfg(test)]
+mod tests;
