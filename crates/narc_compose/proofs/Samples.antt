@@ -1,5 +1,5 @@
 -- The formats of the tests meet the conditions of their rules.
-use Rattle.std.proofs.Common.{◌≡◌, ℕ, ◌+◌, ◌*◌, ◌%◌, ◌^◌, ◌<◌, ◌≤◌, Bool, true, false, List, length, nat_eq, IsTrue, if◌then◌else◌, refl, arith, lit<, lit≤}
+use Rattle.std.proofs.Common.{◌≡◌, ℕ, ◌^◌, ◌<◌, ◌≤◌, Bool, true, false, List, nat_eq, if◌then◌else◌, refl, arith, lit<, lit≤}
 use Rattle.std.specs.Borrow.{Bor}
 use Rattle.narc_format.specs.Meaning.{Meaning}
 use Rattle.narc_scalar.specs.Word.{word}
@@ -8,7 +8,7 @@ use Rattle.narc_compose.specs.declared.either.Either.{Either}
 use Rattle.narc_compose.specs.declared.either.Either.TheVariants.{Left, Right}
 use Rattle.narc_compose.specs.Seq.{seq, seq_tail, Carries}
 use Rattle.narc_compose.specs.Named.{named}
-use Rattle.narc_compose.specs.Union.{Side, united, UnionSound}
+use Rattle.narc_compose.specs.Union.{Side, united}
 use Rattle.narc_compose.specs.Strip.{stripped}
 use Rattle.narc_compose.specs.Whole.{at_once}
 

@@ -50,10 +50,10 @@ module _ {C CA CB VA VB : Type 0} {first : C → CA} {second : C → VA → CB} 
           cost = omega (arith, cost, ap (λ n. (2 + max A.depth B.depth) * n) size);
         }
 
-    -- the second part was refused, between these two places
-    pub refused_second : {f g : Fault} (from at : ℕ) → from ≡ old.place → at ≡ mid.place → g ≡ later_by (at - from) f → Refused B cb mid new t1 t2 f
+    -- the second part was refused; its fault is moved from one place to the other
+    pub refused_second : {f g : Fault} {from at : ℕ} → Refused B cb mid new t1 t2 f → from ≡ old.place → at ≡ mid.place → g ≡ later_by (at - from) f
         → Refused (in_order first second valid A B S whole aligned) c old new t0 t2 g
-    refused_second {f = f} {g = g} from at is_old is_mid moved back =
+    refused_second {f = f} {g = g} {from = from} {at = at} back is_old is_mid moved =
         let p = subst (λ k. Took A k old mid t0 t1 a) ea took in
         let q = subst (λ k. Refused B k mid new t1 t2 f) eb back in
         let far : at - from ≡ length p.used = omega (arith, place-took p, is_old, is_mid) in
@@ -64,10 +64,10 @@ module _ {C CA CB VA VB : Type 0} {first : C → CA} {second : C → VA → CB} 
           cost = omega (arith, cost, ap (λ n. (2 + max A.depth B.depth) * n) (length-cut p));
         }
 
--- the place of a fault behind what was read is a small number
-pub reach : {C V : Type 0} {m : Meaning C V} {c : C} {old mid : Scan} {before after : ℕ} {v : V} → Took m c old mid before after v
-    → (f : Fault) (from at : ℕ) → from ≡ old.place → at ≡ mid.place → IsScan old → f.at ≤ length (bits_left mid) → f.at + (at - from) < 2 ^ 32
-reach {old = old} p f from at is_old is_mid scan inner = omega (arith, inner, length-cut p, length-bits_left old, scan.small, place-took p, is_old, is_mid)
+-- a place that is moved within the octets stays a small number
+pub reach : {C V : Type 0} {m : Meaning C V} {c : C} {mid new : Scan} {before after : ℕ} {f : Fault} {at : ℕ} (from : ℕ) → Refused m c mid new before after f → at ≡ mid.place → IsScan mid
+    → ((b : List Bool) (g : Fault) → m.refuses c b g → g.at ≤ length b) → f.at + (at - from) < 2 ^ 32
+reach {mid = mid} {f = f} from p e scan within = omega (arith, within (bits_left mid) f p.fault, length-bits_left mid, scan.small, scan.within, e)
 
 -- one spelling put behind the other
 pub put_both : {CA CB : Type 0} {ca da : CA} {cb db : CB} (old mid new : List Bool) (p q : ℕ) (s : CA → List Bool) (t : CB → List Bool) → ca ≡ da → cb ≡ db

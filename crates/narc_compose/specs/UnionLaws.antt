@@ -1,9 +1,9 @@
 -- The laws of one of two formats or tails.
-use Rattle.std.specs.Prelude.{ℕ, ◌≡◌, ◌%◌, ◌≤◌, ◌⊎◌, Bool, true, ◌&&◌, ◌||◌, List, ◌++◌, length, IsTrue}
+use Rattle.std.specs.Prelude.{◌≡◌, ◌%◌, ◌≤◌, ◌⊎◌, Bool, ◌&&◌, ◌||◌, List, ◌++◌, length, IsTrue}
 use Rattle.std.proofs.Common.{inl, inr}
 use Rattle.narc_format.specs.declared.fault.Fault.{Fault}
 use Rattle.narc_format.specs.Meaning.{Meaning}
-use Rattle.narc_format.specs.Laws.{Laws, TailLaws, Fits, HasFront, HasValue, IsRefused}
+use Rattle.narc_format.specs.Laws.{Laws, Fits, HasFront, IsRefused}
 use Rattle.narc_compose.specs.declared.either.Either.{Either}
 use Rattle.narc_compose.specs.declared.either.Either.TheVariants.{Left, Right}
 use Rattle.narc_compose.specs.Conditions.{and_left, and_right, or_left, or_right}

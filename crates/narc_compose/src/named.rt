@@ -1,4 +1,4 @@
-//! A format whose unnamed faults get a field.
+//! A format or a tail whose unnamed faults get a field.
 ghost use Rattle.narc_compose.specs.Named.{named};
 ghost use Rattle.narc_compose.specs.NamedLaws.{named_laws, named_is_wide, named_is_holed};
 
@@ -7,7 +7,10 @@ use narc_format::{Fault, Field, Format, Holed, Wide};
 use std::marker::PhantomData;
 use std::sync::ledger::Ledger;
 
-/// F, with the field of this number for its unnamed faults.
+/// F, with the field of this number, 1 to 30, for its unnamed faults. A fault of a field keeps it.
+///
+/// `Named<Word<16>, UDP_SOURCE>` reads 80 from the octets 0 and 80.
+/// It refuses the octet 0, which is too short: `UDP_SOURCE`, at bit 0.
 pub struct Named<F, const FIELD: u8>(PhantomData<F>);
 
 impl<I: Input, F: Format<I>, const FIELD: u8> Format<I> for Named<F, FIELD> {

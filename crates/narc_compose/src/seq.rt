@@ -9,7 +9,7 @@ use narc_format::{Fault, Format, Holed, Wide};
 use std::marker::PhantomData;
 use std::sync::ledger::Ledger;
 
-/// The contexts of two parts.
+/// The contexts of two parts, one behind the other.
 pub trait Carry<V, A, B> {
     type Ctx: Copy;
 
@@ -20,14 +20,20 @@ pub trait Carry<V, A, B> {
     /// Each number of the context lies in the range of its type.
     ghost valid: { Self.Ctx → Type 0 };
 
+    /// The context of the first part.
     fn first(ctx: Self::Ctx) -> A
         ensures { result ≡ first_of ctx };
 
+    /// The context of the second part, behind this value of the first.
     fn second(ctx: Self::Ctx, value: &V) -> B
         ensures { result ≡ second_of ctx value.now };
 }
 
-/// A, then B in a context that may depend on the value of A.
+/// A, and behind it B, in a context that may depend on the value of A.
+/// Where B begins at an octet, A is a whole number of octets.
+///
+/// `Seq<Word<4>, Word<4>, K>` reads 4 and 5 from the octet 0x45.
+/// It refuses the bits 010001, which are too few for the second word: unnamed, at bit 4.
 pub struct Seq<A, B, K> {
     first: PhantomData<A>,
     second: PhantomData<B>,
@@ -49,15 +55,11 @@ impl<I: Input, A: Format<I>, B: Format<I>, K: Carry<A::Value, A::Ctx, B::Ctx>> F
         steps: &mut Steps<L>,
     ) -> Result<(A::Value, B::Value), Fault> {
         let from = cursor.place();
-        match A::read(K::first(ctx), cursor, steps) {
-            Ok(a) => {
-                let at = cursor.place();
-                match B::read(K::second(ctx, &a), cursor, steps) {
-                    Ok(b) => Ok((a, b)),
-                    Err(fault) => Err(fault.later_by((at - from) as u32)),
-                }
-            }
-            Err(fault) => Err(fault),
+        let a = A::read(K::first(ctx), cursor, steps)?;
+        let at = cursor.place();
+        match B::read(K::second(ctx, &a), cursor, steps) {
+            Ok(b) => Ok((a, b)),
+            Err(fault) => Err(fault.later_by((at - from) as u32)),
         }
     }
 

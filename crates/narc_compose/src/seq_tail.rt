@@ -9,7 +9,10 @@ use narc_format::{Fault, Format, Holed, HoledTail, Tail};
 use std::marker::PhantomData;
 use std::sync::ledger::Ledger;
 
-/// A, then the tail B in a context that may depend on the value of A.
+/// A, a whole number of octets, and behind it the tail B, in a context that may depend on the value of A.
+///
+/// `SeqTail<Word<8>, Bytes, K>` reads 7 and `[8, 9]` from the octets 7, 8 and 9.
+/// It refuses no octets at all, which are too few for the word: unnamed, at bit 0.
 pub struct SeqTail<A, B, K> {
     first: PhantomData<A>,
     second: PhantomData<B>,
@@ -31,15 +34,11 @@ impl<I: Input, A: Format<I>, B: Tail<I>, K: Carry<A::Value, A::Ctx, B::Ctx>> Tai
         steps: &mut Steps<L>,
     ) -> Result<(A::Value, B::Value), Fault> {
         let from = cursor.place();
-        match A::read(K::first(ctx), cursor, steps) {
-            Ok(a) => {
-                let at = cursor.place();
-                match B::read(K::second(ctx, &a), cursor, steps) {
-                    Ok(b) => Ok((a, b)),
-                    Err(fault) => Err(fault.later_by((at - from) as u32)),
-                }
-            }
-            Err(fault) => Err(fault),
+        let a = A::read(K::first(ctx), cursor, steps)?;
+        let at = cursor.place();
+        match B::read(K::second(ctx, &a), cursor, steps) {
+            Ok(b) => Ok((a, b)),
+            Err(fault) => Err(fault.later_by((at - from) as u32)),
         }
     }
 

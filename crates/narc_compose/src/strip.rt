@@ -1,4 +1,4 @@
-//! A format of raw values, seen as others.
+//! A format or a tail of raw values, seen as others.
 ghost use Rattle.std.specs.Prelude.{◌≡◌};
 ghost use Rattle.narc_compose.specs.Strip.{stripped};
 ghost use Rattle.narc_compose.specs.StripLaws.{stripped_laws, stripped_is_wide, stripped_is_holed};
@@ -28,7 +28,10 @@ pub trait Choose<C, W> {
         ensures { result ≡ choose_of ctx value.now };
 }
 
-/// F, whose raw values are seen as M says.
+/// F, whose raw values are seen as M says. Of the raw values that are seen as a value, M chooses the one that is written.
+///
+/// `Strip<Seq<Word<1>, Word<7>, K>, M>`, whose M forgets the bit, reads 5 from the octet 0x85, and writes 0x05.
+/// It refuses what F refuses, as the bits 1000: unnamed, at bit 1.
 pub struct Strip<F, M> {
     format: PhantomData<F>,
     choice: PhantomData<M>,
@@ -47,10 +50,8 @@ impl<I: Input, F: Format<I>, M: Choose<F::Ctx, F::Value>> Format<I> for Strip<F,
         cursor: &mut I,
         steps: &mut Steps<L>,
     ) -> Result<M::Value, Fault> {
-        match F::read(ctx, cursor, steps) {
-            Ok(raw) => Ok(M::strip(raw)),
-            Err(fault) => Err(fault),
-        }
+        let raw = F::read(ctx, cursor, steps)?;
+        Ok(M::strip(raw))
     }
 
     #[tactic(auto, unfolding(crate::specs::Strip::stripped))]

@@ -20,10 +20,8 @@ impl<I: Input, F: Tail<I>, M: Choose<F::Ctx, F::Value>> Tail<I> for Strip<F, M> 
         cursor: &mut I,
         steps: &mut Steps<L>,
     ) -> Result<M::Value, Fault> {
-        match F::read(ctx, cursor, steps) {
-            Ok(raw) => Ok(M::strip(raw)),
-            Err(fault) => Err(fault),
-        }
+        let raw = F::read(ctx, cursor, steps)?;
+        Ok(M::strip(raw))
     }
 
     #[tactic(auto, unfolding(crate::specs::Strip::stripped))]

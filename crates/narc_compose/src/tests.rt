@@ -5,7 +5,9 @@ ghost use Rattle.narc_compose.specs.declared.either.Either.TheVariants.{Left, Ri
 
 use crate::{Carry, Choose, Either, Named, Pick, Seq, SeqTail, Strip, Union, Whole};
 use narc_bits::{Cursor, Input, Steps, Writer};
-use narc_format::field::{IPV4_HEADER_LENGTH, IPV4_VERSION, UDP_DESTINATION, UDP_LENGTH, UDP_SOURCE};
+use narc_format::field::{
+    IPV4_HEADER_LENGTH, IPV4_VERSION, UDP_DESTINATION, UDP_LENGTH, UDP_SOURCE,
+};
 use narc_format::{Fault, Field, Format, Tail, Wide};
 use narc_list::Bytes;
 use narc_scalar::Word;

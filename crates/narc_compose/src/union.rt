@@ -24,7 +24,10 @@ pub trait Pick<A, B> {
         ensures { result ≡ pick_of ctx };
 }
 
-/// A or B, as T picks.
+/// A or B, as T picks by the context, never by the bits.
+///
+/// `Union<T, Word<8>, Word<16>>` reads `Left(7)` from the octet 7 where T picks the left member.
+/// Where T picks the right one it refuses that octet, which is too short: unnamed, at bit 0.
 pub struct Union<T, A, B> {
     choice: PhantomData<T>,
     left: PhantomData<A>,
@@ -45,14 +48,8 @@ impl<I: Input, A: Format<I>, B: Format<I>, T: Pick<A::Ctx, B::Ctx>> Format<I> fo
         steps: &mut Steps<L>,
     ) -> Result<Either<A::Value, B::Value>, Fault> {
         match T::pick(ctx) {
-            Either::Left(a) => match A::read(a, cursor, steps) {
-                Ok(value) => Ok(Either::Left(value)),
-                Err(fault) => Err(fault),
-            },
-            Either::Right(b) => match B::read(b, cursor, steps) {
-                Ok(value) => Ok(Either::Right(value)),
-                Err(fault) => Err(fault),
-            },
+            Either::Left(a) => Ok(Either::Left(A::read(a, cursor, steps)?)),
+            Either::Right(b) => Ok(Either::Right(B::read(b, cursor, steps)?)),
         }
     }
 

@@ -22,14 +22,8 @@ impl<I: Input, A: Tail<I>, B: Tail<I>, T: Pick<A::Ctx, B::Ctx>> Tail<I> for Unio
         steps: &mut Steps<L>,
     ) -> Result<Either<A::Value, B::Value>, Fault> {
         match T::pick(ctx) {
-            Either::Left(a) => match A::read(a, cursor, steps) {
-                Ok(value) => Ok(Either::Left(value)),
-                Err(fault) => Err(fault),
-            },
-            Either::Right(b) => match B::read(b, cursor, steps) {
-                Ok(value) => Ok(Either::Right(value)),
-                Err(fault) => Err(fault),
-            },
+            Either::Left(a) => Ok(Either::Left(A::read(a, cursor, steps)?)),
+            Either::Right(b) => Ok(Either::Right(B::read(b, cursor, steps)?)),
         }
     }
 

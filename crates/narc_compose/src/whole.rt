@@ -7,7 +7,10 @@ use narc_format::{Fault, Format, Wide};
 use std::marker::PhantomData;
 use std::sync::ledger::Ledger;
 
-/// F, refused at its beginning.
+/// F, a whole number of octets in width, with each of its faults at its beginning.
+///
+/// `Whole<Seq<Word<4>, Word<4>, K>>` reads 4 and 5 from the octet 0x45.
+/// It refuses the bits 010001, of which the second word would lack two: unnamed, at bit 0.
 pub struct Whole<F>(PhantomData<F>);
 
 impl<I: Input, F: Wide<I>> Format<I> for Whole<F> {
