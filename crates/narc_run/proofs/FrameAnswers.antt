@@ -7,7 +7,7 @@ use Rattle.narc_packet.specs.Answer.{Answer, IsAnswer}
 use Rattle.narc_stack.specs.Unbuilt.{unbuilt_at}
 use Rattle.narc_text.proofs.Printings.{Appends-nil}
 use Rattle.narc_run.specs.Job.{Frame}
-use Rattle.narc_run.specs.Findings.{Findings, Found, frames}
+use Rattle.narc_run.specs.Findings.{Findings, frames}
 use Rattle.narc_run.specs.Output.{output, frame_line, answer_line}
 use Rattle.narc_run.specs.Verdict.{verdict, verdict_of, frame_verdict, answer_verdict}
 use Rattle.narc_run.specs.Run.{WroteFront}

@@ -1,6 +1,6 @@
 -- The job `frame` keeps what is promised of runs.
-use Rattle.std.proofs.Common.{◌≡◌, ◌≢◌, ℕ, ◌+◌, ◌-◌, ◌*◌, ◌<◌, ◌≤◌, ◌⊎◌, inl, inr, List, [], ◌∷◌, ◌++◌, length, take, Option, Some, None, refl, sym, ap, ◌∙◌, subst, arith, length-append, append-nil}
-use Rattle.std.specs.Prelude.{IsSome, IfSome, IfNone, IsTrue, sum_by, nat_lt}
+use Rattle.std.proofs.Common.{◌≡◌, ℕ, ◌+◌, ◌-◌, ◌*◌, ◌<◌, ◌≤◌, inl, inr, List, [], ◌++◌, length, take, Option, Some, None, refl, sym, ap, ◌∙◌, subst, arith, length-append, append-nil}
+use Rattle.std.specs.Prelude.{IsSome, IfSome, IfNone, sum_by}
 use Rattle.std.proofs.lemmas.List.{take_at}
 use Rattle.std.proofs.lemmas.Bool.{lt-ltb}
 use Rattle.narc_world.specs.Outside.{Rose, Appends, TakesFront}
@@ -9,10 +9,10 @@ use Rattle.narc_run.specs.Job.{Job, Frame, job}
 use Rattle.narc_run.specs.declared.job.Job.{Job as JobOf}
 use Rattle.narc_run.specs.declared.job.Job.TheVariants as variant
 use Rattle.narc_run.specs.JobView.{job_view}
-use Rattle.narc_run.specs.Findings.{Findings, Found, FoundSoFar, frames}
-use Rattle.narc_run.specs.Output.{output, usage_line}
-use Rattle.narc_run.specs.Verdict.{verdict, verdict_of}
-use Rattle.narc_run.specs.Run.{Run, Told, WroteFront, IsRightRun, IsRightWriting}
+use Rattle.narc_run.specs.Findings.{frames}
+use Rattle.narc_run.specs.Output.{output}
+use Rattle.narc_run.specs.Verdict.{verdict}
+use Rattle.narc_run.specs.Run.{Run, Told, IsRightRun, IsRightWriting}
 use Rattle.narc_run.specs.FrameRun.{IsAnswered, IsCut, SourceFails, Overflows, Ends, FrameRun, Faulted, Overflown, Ended}
 use Rattle.narc_run.proofs.FrameAnswers.{no_findings, frames-fits, verdict-long, output-long, status-verdict}
 

@@ -1,5 +1,5 @@
 -- What was taken from a source into a buffer.
-use Rattle.std.specs.Prelude.{◌≡◌, ℕ, ◌<◌, ◌≤◌, List, [], length, take, Option}
+use Rattle.std.specs.Prelude.{ℕ, ◌<◌, ◌≤◌, List, length, take, Option}
 use Rattle.narc_world.specs.Outside.{TakesFront, IsEmptyWhereTold}
 use Rattle.narc_run.specs.declared.input.Filled.{Filled}
 use Rattle.narc_run.specs.declared.input.Filled.TheVariants.{Whole, Full, Failed}

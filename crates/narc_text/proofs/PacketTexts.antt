@@ -1,5 +1,5 @@
 -- The text of a packet, part by part.
-use Rattle.std.proofs.Common.{◌≡◌, ℕ, List, [], ◌∷◌, ◌++◌, length, get_or, codes, decimal, refl, append_assoc, arith}
+use Rattle.std.proofs.Common.{◌≡◌, ℕ, List, [], ◌∷◌, ◌++◌, length, get_or, codes, decimal, append_assoc, arith}
 use Rattle.narc_packet.specs.declared.packet.Arp.{Arp}
 use Rattle.narc_packet.specs.PacketView.{PacketView, EthBodyView, ArpBody, OtherBody}
 use Rattle.narc_packet.specs.TextWords.{hex_word, mac_word, ip_word}

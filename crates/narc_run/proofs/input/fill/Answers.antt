@@ -1,4 +1,4 @@
-use Rattle.std.proofs.Common.{◌+◌, ◌-◌, ◌++◌, length, take, refl, sym, subst, arith, length-append, length-take, length-drop}
+use Rattle.std.proofs.Common.{◌-◌, length, take, refl, sym, subst, arith, length-append, length-take, length-drop}
 use Rattle.narc_world.specs.Outside.{TakesFront}
 use Rattle.narc_run.proofs.Fillings.{TakesFront-nil, TakesFront-append, take-pulled}
 use Rattle.narc_run.proofs.input.fill.Goals as goal

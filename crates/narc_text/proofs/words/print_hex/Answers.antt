@@ -1,9 +1,9 @@
-use Rattle.std.proofs.Common.{◌≡◌, ◌<◌, ◌≤◌, ◌++◌, [], List, ℕ, length, drop, refl, sym, ap, ◌∙◌, subst, arith, append-nil, append_assoc, take-append-drop}
+use Rattle.std.proofs.Common.{◌≡◌, ◌++◌, [], length, drop, refl, sym, ap, ◌∙◌, subst, arith, append-nil, append_assoc, take-append-drop}
 use Rattle.hex.specs.Hex.{encode_lower}
 use Rattle.narc_packet.specs.TextWords.{hex_word}
-use Rattle.narc_text.specs.Printing.{Passes, Stops, IsPrinted}
+use Rattle.narc_text.specs.Printing.{Passes, Stops}
 use Rattle.narc_text.proofs.HexWords.{encode_lower-append, encode_lower-nil, hex_word-split, is_some}
-use Rattle.narc_text.proofs.Printings.{Splits, Passes-put, Passes-room, Passes-then, Stops-then, Stops-more, IsPrinted-failed}
+use Rattle.narc_text.proofs.Printings.{Passes-put, Passes-room, Passes-then, Stops-then, Stops-more, IsPrinted-failed}
 use Rattle.narc_text.proofs.words.print_hex.Goals as goal
 
 pub loop-rest-init : goal.loop-rest-init
@@ -43,6 +43,6 @@ returns-in_err-make_room-2-clause-printed g c =
     let middle = g.K.Sink.held c.loop-rest.sink in
     let now = g.K.Sink.held c.make_room-in-loop-rest.new.sink in
     let stopped = Stops-then (encode_lower so_far.done.front) (encode_lower rest) c.args.page.now c.loop-rest.page before middle now so_far.printed
-        (Stops-more [] (encode_lower rest) c.loop-rest.page middle now c.in_err-make_room-2.ensures.printed) in
+    (Stops-more [] (encode_lower rest) c.loop-rest.page middle now c.in_err-make_room-2.ensures.printed) in
     IsPrinted-failed (hex_word c.args.octets.now) c.args.page.now c.make_room-in-loop-rest.new.self before now c.from_residual-in_err-make_room-2.result c.from_residual-in_err-make_room-2.ensures.0
     (subst (λ l. Stops (c.args.page.now ++ l) before now) (sym (hex_word-split c.args.octets.now so_far.done.front rest (is_some (length c.args.octets.now) c.is_empty.result c.is_empty.ensures c.if-is_empty.false) so_far.done.joined)) stopped)

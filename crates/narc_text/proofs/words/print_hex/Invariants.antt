@@ -1,4 +1,4 @@
-use Rattle.std.proofs.Common.{◌≡◌, ◌≤◌, ◌++◌, length}
+use Rattle.std.proofs.Common.{◌≤◌, ◌++◌, length}
 use Rattle.hex.specs.Hex.{encode_lower}
 use Rattle.narc_text.specs.Printing.{Passes}
 use Rattle.narc_text.proofs.Printings.{Splits}
