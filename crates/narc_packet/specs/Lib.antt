@@ -4,3 +4,4 @@ pub mod Frame
 pub mod Refusal
 pub mod Answer
 pub mod TextWords
+pub mod WellFormed

@@ -18,7 +18,7 @@ pub enum EthBody<'a> {
 }
 
 /// An ARP packet for Ethernet and IPv4 (RFC 826): an operation, and the addresses of sender and target.
-#[derive(Drop)]
+#[derive(Clone, Copy, Drop)]
 pub struct Arp {
     pub op: u16,
     pub sender_mac: [u8; 6],
