@@ -1,0 +1,171 @@
+-- The layouts of single fields.
+use Rattle.std.proofs.Common.{◌≡◌, ℕ, ◌+◌, ◌-◌, ◌*◌, ◌%◌, ◌^◌, ◌<◌, ◌≤◌, Bool, true, false, not, ◌||◌, List, [], ◌∷◌, ◌++◌, length, take, drop, nat_eq, refl, sym, ap, ◌∙◌, arith, length-take, take-append-drop}
+use Rattle.std.proofs.lemmas.Bool.{eqb-true, eq-eqb, not-false, or_parts, or_from, true_from_ne_false, true≢false}
+use Rattle.std.proofs.lemmas.List.{take_at}
+use Rattle.narc_bits.specs.Octets.{IsOctets, big_endian, number_of, number_at, is_shorter}
+use Rattle.narc_bits.specs.Bits.{bits, bits_of_number}
+use Rattle.narc_bits.proofs.Numbers.{length-bits, length-bits_of_number}
+use Rattle.narc_bits.proofs.Octets.{IsOctets-take, IsOctets-drop, IsOctets-big_endian}
+use Rattle.narc_bits.proofs.Scans.{bits-take}
+use Rattle.narc_bits.proofs.Spelled.{bits_same, bits-big_endian, length-big_endian}
+use Rattle.narc_scalar.specs.Word.{word}
+use Rattle.narc_scalar.specs.WordLaws.{word_laws}
+use Rattle.narc_scalar.specs.Octets.{fixed_octets}
+use Rattle.narc_scalar.specs.OctetsLaws.{fixed_octets_laws}
+use Rattle.narc_scalar.specs.Constant.{constant}
+use Rattle.narc_scalar.specs.ConstantLaws.{constant_laws}
+use Rattle.narc_compose.specs.Named.{named}
+use Rattle.narc_packet.specs.Refusal.{row, differs}
+use Rattle.narc_eth.proofs.NetworkOrder.{number_of-big_endian}
+use Rattle.narc_eth.proofs.Layouts.{IsShaped, IsLayout}
+use Rattle.narc_eth.proofs.NamedLayout.{IsUnnamed, named_layout}
+use Rattle.narc_eth.proofs.Fronts.{few, enough, long, cut, is_number, below}
+
+-- a number of k octets
+module _ (k : ℕ) (some : 1 ≤ k) (most : k ≤ 8) where
+  abbrev InWord : ℕ → Type 0
+  InWord v = v < 2 ^ (8 * k)
+
+  whole_octets : nat_eq (8 * k % 8) 0 ≡ true
+  whole_octets = let e : 8 * k % 8 ≡ 0 = omega arith in ap (λ n. nat_eq n 0) e
+
+  shape_word : IsShaped (word (8 * k)) InWord (big_endian k) k
+  unfolding word
+  shape_word = record {
+    laws = word_laws (8 * k);
+    sound = (omega (arith, some), omega (arith, most));
+    valid = tt;
+    whole = whole_octets;
+    depth = refl;
+    alike = λ v w e. e;
+    admits = λ v. (λ h. h, λ h. h);
+    stands = λ v b. (λ p. (p.0, p.1 ∙ sym (bits-big_endian k v)), λ h. (h.0, h.1 ∙ bits-big_endian k v));
+    sized = λ v h. length-big_endian k v;
+    each = λ v h. IsOctets-big_endian k v;
+  }
+
+  unnamed_word : IsUnnamed (word (8 * k)) InWord (big_endian k) (λ skip x. is_shorter x (skip + k))
+  unfolding word
+  unnamed_word = record {
+    refuses = λ skip x each f. (λ p. ((few k skip x some).0 p.0, p.1), λ h. ((few k skip x some).1 h.0, h.1));
+    passes = λ skip x each. (
+      λ h. record {
+        found = number_of (take k (drop skip x));
+        in_range = below k skip x each h;
+        later = drop k (drop skip x);
+        joined = sym (take-append-drop k (drop skip x)) ∙ ap (λ l. l ++ drop k (drop skip x)) (is_number k skip x each h);
+      },
+      λ p. long k skip x (big_endian k p.found) p.later some (length-big_endian k p.found) p.joined,
+    );
+  }
+
+  pub word_layout : (field : ℕ) → 1 ≤ field → field ≤ 30 → IsLayout (named field (word (8 * k))) InWord (big_endian k) k (λ start skip x. row field (start + skip) (is_shorter x (skip + k)) ∷ [])
+  word_layout field low high = named_layout field low high shape_word unnamed_word
+
+-- k octets
+module _ (k : ℕ) (some : 1 ≤ k) where
+  abbrev AreOctets : List ℕ → Type 0
+  AreOctets v = (length v ≡ k) × IsOctets v
+
+  shape_octets : IsShaped (fixed_octets k) AreOctets (λ v. v) k
+  unfolding fixed_octets
+  shape_octets = record {
+    laws = fixed_octets_laws k;
+    sound = tt;
+    valid = tt;
+    whole = refl;
+    depth = refl;
+    alike = λ v w e. e;
+    admits = λ v. (λ h. h, λ h. h);
+    stands = λ v b. (λ p. ((p.size, p.each), p.is), λ h. record { size = h.0.0; each = h.0.1; is = h.1 });
+    sized = λ v h. h.0;
+    each = λ v h. h.1;
+  }
+
+  unnamed_octets : IsUnnamed (fixed_octets k) AreOctets (λ v. v) (λ skip x. is_shorter x (skip + k))
+  unfolding fixed_octets
+  unnamed_octets = record {
+    refuses = λ skip x each f. (λ p. ((few k skip x some).0 p.0, p.1), λ h. ((few k skip x some).1 h.0, h.1));
+    passes = λ skip x each. (
+      λ h. record {
+        found = take k (drop skip x);
+        in_range = (cut k skip x h, IsOctets-take k (drop skip x) (IsOctets-drop skip x each));
+        later = drop k (drop skip x);
+        joined = sym (take-append-drop k (drop skip x));
+      },
+      λ p. long k skip x p.found p.later some p.in_range.0 p.joined,
+    );
+  }
+
+  pub octets_layout : (field : ℕ) → 1 ≤ field → field ≤ 30 → IsLayout (named field (fixed_octets k)) AreOctets (λ v. v) k (λ start skip x. row field (start + skip) (is_shorter x (skip + k)) ∷ [])
+  octets_layout field low high = named_layout field low high shape_octets unnamed_octets
+
+-- one number of k octets
+module _ (k n : ℕ) (some : 1 ≤ k) (most : k ≤ 8) (fits : n < 2 ^ (8 * k)) where
+  abbrev Always : Unit {0} → Type 0
+  Always u = Unit {0}
+
+  abbrev octets_of_n : Unit {0} → List ℕ
+  octets_of_n u = big_endian k n
+
+  shape_constant : IsShaped (constant (8 * k) n) Always octets_of_n k
+  unfolding constant
+  shape_constant = record {
+    laws = constant_laws (8 * k) n;
+    sound = record { some = omega (arith, some); width = omega (arith, most); fits = fits };
+    valid = tt;
+    whole = whole_octets k some most;
+    depth = refl;
+    alike = λ v w e. refl;
+    admits = λ v. (λ h. h, λ h. h);
+    stands = λ v b. (λ p. (tt, p ∙ sym (bits-big_endian k n)), λ h. h.1 ∙ bits-big_endian k n);
+    sized = λ v h. length-big_endian k n;
+    each = λ v h. IsOctets-big_endian k n;
+  }
+
+  abbrev is_other : (skip : ℕ) → List ℕ → Bool
+  is_other skip x = is_shorter x (skip + k) || differs (number_at x skip k) n
+
+  number_is : (skip : ℕ) (x : List ℕ) → number_at x skip k ≡ number_of (take k (drop skip x))
+  number_is skip x = let e : skip + k - skip ≡ k = omega arith in ap (λ j. number_of (take j (drop skip x))) e
+
+  -- the octets of the number are there
+  there : (skip : ℕ) (x : List ℕ) → IsOctets x → is_other skip x ≡ false → take k (drop skip x) ≡ big_endian k n
+  there skip x each h =
+      let p = or_parts (is_shorter x (skip + k)) (differs (number_at x skip k) n) h in
+      let same : nat_eq (number_at x skip k) n ≡ true = not-false (nat_eq (number_at x skip k) n) p.1 in
+      is_number k skip x each p.0 ∙ ap (big_endian k) (sym (number_is skip x) ∙ eqb-true (number_at x skip k) n same)
+
+  not_other : (skip : ℕ) (x later : List ℕ) → drop skip x ≡ big_endian k n ++ later → is_other skip x ≡ false
+  not_other skip x later joined =
+      let size = length-big_endian k n in
+      let front : take k (drop skip x) ≡ big_endian k n = ap (take k) joined ∙ take_at (big_endian k n) later k size in
+      let same : number_at x skip k ≡ n = number_is skip x ∙ ap number_of front ∙ number_of-big_endian k n fits in
+      or_from (is_shorter x (skip + k)) (differs (number_at x skip k) n) (long k skip x (big_endian k n) later some size joined) (ap not (eq-eqb (number_at x skip k) n same))
+
+  spelled_there : (y : List ℕ) → IsOctets y → take (8 * k) (bits y) ≡ bits_of_number (8 * k) n → y ≡ big_endian k n ++ drop k y
+  spelled_there y each e =
+      let size : k ≤ length y = omega (arith, ap length e, length-take (8 * k) (bits y), length-bits_of_number (8 * k) n, length-bits y) in
+      let front = bits_same (take k y) (big_endian k n) (IsOctets-take k y each) (IsOctets-big_endian k n) (bits-take y k size ∙ e ∙ sym (bits-big_endian k n)) in
+      sym (take-append-drop k y) ∙ ap (λ l. l ++ drop k y) front
+
+  unnamed_constant : IsUnnamed (constant (8 * k) n) Always octets_of_n is_other
+  unfolding constant
+  unnamed_constant = record {
+    refuses = λ skip x each f. (
+      λ p. (true_from_ne_false (is_other skip x) (λ h. p.0 (refused skip x each h)), p.1),
+      λ h. (λ e. let no : is_other skip x ≡ false = not_other skip x (drop k (drop skip x)) (spelled_there (drop skip x) (IsOctets-drop skip x each) e) in absurd (true≢false (sym h.0 ∙ no)), h.1),
+    );
+    passes = λ skip x each. (
+      λ h. record { found = tt; in_range = tt; later = drop k (drop skip x); joined = sym (take-append-drop k (drop skip x)) ∙ ap (λ l. l ++ drop k (drop skip x)) (there skip x each h) },
+      λ p. not_other skip x p.later p.joined,
+    );
+  } where
+    refused : (skip : ℕ) (x : List ℕ) → IsOctets x → is_other skip x ≡ false → take (8 * k) (bits (drop skip x)) ≡ bits_of_number (8 * k) n
+    refused skip x each h =
+        let p = or_parts (is_shorter x (skip + k)) (differs (number_at x skip k) n) h in
+        sym (bits-take (drop skip x) k (enough k skip x p.0)) ∙ ap bits (there skip x each h) ∙ bits-big_endian k n
+
+  pub constant_layout : (field : ℕ) → 1 ≤ field → field ≤ 30
+      → IsLayout (named field (constant (8 * k) n)) Always octets_of_n k (λ start skip x. row field (start + skip) (is_shorter x (skip + k) || differs (number_at x skip k) n) ∷ [])
+  constant_layout field low high = named_layout field low high shape_constant unnamed_constant

@@ -1,0 +1,5 @@
+use Rattle.narc_eth.proofs.ArpLayout.{arp_layout}
+use Rattle.narc_eth.proofs.arp.arp_format_is_its_octets.Goals as goal
+
+pub returns : goal.returns
+returns c = arp_layout.shape.stands

@@ -1,0 +1,5 @@
+use Rattle.narc_eth.proofs.HeaderLayout.{eth_head_layout}
+use Rattle.narc_eth.proofs.ethernet.eth_head_is_its_octets.Goals as goal
+
+pub returns : goal.returns
+returns c = eth_head_layout.shape.stands

@@ -1,0 +1,4 @@
+pub mod FirstFault
+pub mod Both
+pub mod EthernetHeader
+pub mod ArpPacket

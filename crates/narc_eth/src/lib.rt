@@ -1,0 +1,16 @@
+//! The formats of Ethernet: the header of a frame, and ARP packets.
+#![tactic(auto)]
+
+mod arp;
+mod ethernet;
+mod no_context;
+#[cfg(test)]
+mod tests;
+
+pub use arp::{
+    ArpFormat, AsArp, arp_format_is_its_octets, arp_format_is_refused_by_row, arp_format_is_sound,
+};
+pub use ethernet::{
+    EthHead, eth_head_is_its_octets, eth_head_is_refused_by_row, eth_head_is_sound,
+};
+pub use no_context::NoContext;
