@@ -32,7 +32,7 @@ impl<'a> Model for Cursor<'a> {
 }
 
 impl<'a> Cursor<'a> {
-    /// A cursor at the first bit.
+    /// A cursor at the first bit of at most `MAX_FRAME` octets.
     pub fn new(bytes: &'a [u8]) -> Cursor<'a>
         requires { length bytes.now ≤ MAX_FRAME }
         ensures { result ≡ record { octets = bytes.now; place = 0 } }
@@ -59,7 +59,9 @@ impl<'a> Cursor<'a> {
         self.place
     }
 
-    /// The next `N` bits as a number, most significant first. `Short` where fewer are left; the place then stays.
+    /// The next `N` bits, 1 to 64, as a number, most significant first; the place moves past them. It costs one step.
+    ///
+    /// `Short` exactly where fewer bits are left; the place then stays.
     pub fn take<const N: u32, L: Ledger>(&mut self, steps: &mut Steps<L>) -> Result<u64, Short>
         requires some { 1 ≤ N }
         requires width { N ≤ 64 }
@@ -69,7 +71,8 @@ impl<'a> Cursor<'a> {
         self.take_bits(N, steps)
     }
 
-    /// The next `count` octets, not copied.
+    /// The next `count` octets, not copied, and the place moves past them. The place is at an octet, and so many octets are
+    /// left. It costs a step for each octet.
     pub fn slice<L: Ledger>(&mut self, count: usize, steps: &mut Steps<L>) -> &'a [u8]
         requires aligned { self.old.place % 8 ≡ 0 }
         requires enough { 8 * count ≤ length (bits_left self.old) }

@@ -35,7 +35,8 @@ impl Writer {
         self.place
     }
 
-    /// Puts the `N` bits of a number, most significant first, and moves past them.
+    /// Puts a number of `N` bits, 1 to 64, at the place, most significant first, and moves past them. The room has these
+    /// bits from the place on.
     pub fn put<const N: u32>(&mut self, room: &mut [u8], value: u64)
         requires some { 1 ≤ N }
         requires width { N ≤ 64 }
@@ -50,7 +51,7 @@ impl Writer {
         self.place += N as usize;
     }
 
-    /// Puts octets, and moves past them.
+    /// Puts octets at the place, which is at an octet of the room, and moves past them. The room has so many from there on.
     pub fn put_slice(&mut self, room: &mut [u8], bytes: &[u8])
         requires aligned { self.old % 8 ≡ 0 }
         requires small { length room.old ≤ MAX_FRAME }
@@ -64,7 +65,8 @@ impl Writer {
         self.place += 8 * bytes.len();
     }
 
-    /// Puts `count` octets 0, and moves past them.
+    /// Puts `count` octets 0 at the place, which is at an octet of the room, and moves past them. The room has so many from
+    /// there on.
     pub fn put_zeros(&mut self, room: &mut [u8], count: usize)
         requires aligned { self.old % 8 ≡ 0 }
         requires small { length room.old ≤ MAX_FRAME }

@@ -3,7 +3,9 @@
 /// The packet of an Ethernet II frame (RFC 894): two hardware addresses, and what the frame carries.
 #[derive(Drop)]
 pub struct Packet<'a> {
+    /// The destination's hardware address.
     pub dst: [u8; 6],
+    /// The source's hardware address.
     pub src: [u8; 6],
     pub body: EthBody<'a>,
 }
@@ -13,13 +15,14 @@ pub struct Packet<'a> {
 pub enum EthBody<'a> {
     /// An ARP packet for Ethernet and IPv4.
     Arp(Arp),
-    /// Data of a type that is kept unread.
+    /// Data of a type, neither ARP nor IPv4, that is kept unread.
     Other { ether_type: u16, payload: &'a [u8] },
 }
 
 /// An ARP packet for Ethernet and IPv4 (RFC 826): an operation, and the addresses of sender and target.
 #[derive(Clone, Copy, Drop)]
 pub struct Arp {
+    /// The operation: 1 for a request, 2 for a reply, and any other number.
     pub op: u16,
     pub sender_mac: [u8; 6],
     pub sender_ip: [u8; 4],

@@ -64,6 +64,7 @@ module _ (words : List (List ℕ)) (is : job words ≡ Some Frame) where
         let e = taken_is input f.octets rest f.took in
         record {
           front = f.took ∙ ap (λ l. l ++ rest) (sym e);
+          reach = for_frame _ (omega (arith, f.fits, ap length e));
           done = λ h. absurd (omega (arith, f.told));
           malformed = λ h. absurd (omega (arith, f.told));
           source_fault = λ h. (some, for_frame _ (f.place ∙ ap length (sym e), record { found = no_findings; are = tt; holds = Appends-same before after f.unwritten }));
@@ -81,6 +82,7 @@ module _ (words : List (List ℕ)) (is : job words ≡ Some Frame) where
         let longer : 262144 < length input = omega (arith, f.long, ap length f.took, length-append f.octets rest) in
         record {
           front = front;
+          reach = for_frame _ (omega (arith, f.long, ap length e));
           done = λ h. absurd (omega (arith, f.told));
           malformed = λ h. (
             some,
@@ -125,13 +127,14 @@ module _ (words : List (List ℕ)) (is : job words ≡ Some Frame) where
               let same : (verdict Frame t here.found).status ≡ status = ap (λ v. v.status) here.holds.0 in
               record {
                 front = front;
+                reach = for_frame _ (omega (arith, fits));
                 done = λ h. for_frame _ (λ reads. (f.ended, fits, here));
                 malformed = λ h. (
                   some,
                   for_frame _ (record {
                     found = here.found;
                     are = here.are;
-                    holds = (inl (f.ended, same ∙ h), sym (ap (λ v. v.at) here.holds.0), here.holds.1);
+                    holds = (inl (f.ended, tt, same ∙ h), sym (ap (λ v. v.at) here.holds.0), here.holds.1);
                   }),
                 );
                 source_fault = λ h. absurd (omega (arith, bound.0, same, h));
@@ -148,6 +151,7 @@ module _ (words : List (List ℕ)) (is : job words ≡ Some Frame) where
               }
           | inr cut ↦ record {
             front = front;
+            reach = for_frame _ (omega (arith, fits));
             done = λ h. absurd (omega (arith, cut.0));
             malformed = λ h. absurd (omega (arith, cut.0));
             source_fault = λ h. absurd (omega (arith, cut.0));

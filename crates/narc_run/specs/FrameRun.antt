@@ -21,6 +21,7 @@ module _ (left_before left_after held_before held_after : Option (List ℕ)) (st
   pub record SourceFails : Type 0 where
     pub octets : List ℕ
     pub took : TakesFront octets left_before left_after
+    pub fits : length octets ≤ 262145
     pub told : status ≡ 5
     pub place : at ≡ length octets
     pub unwritten : held_after ≡ held_before
@@ -30,7 +31,7 @@ module _ (left_before left_after held_before held_after : Option (List ℕ)) (st
   pub record Overflows : Type 0 where
     pub octets : List ℕ
     pub took : TakesFront octets left_before left_after
-    pub long : 262144 < length octets
+    pub long : length octets ≡ 262145
     pub told : status ≡ 3
     pub place : at ≡ 262144
     pub unwritten : held_after ≡ held_before

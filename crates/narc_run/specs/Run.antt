@@ -56,6 +56,18 @@ counted Frame t = t
 abbrev pub IsWithinLimit : Job → List ℕ → Type 0
 IsWithinLimit Frame t = length t ≤ 262144
 
+-- the most octets that the job takes: one more than a frame has shows that there are too many
+abbrev pub IsWithinReach : Job → List ℕ → Type 0
+IsWithinReach Frame t = length t ≤ 262145
+
+-- an input that is judged whole where it is malformed; of a frame each is
+abbrev pub IsJudgedWhole : Job → List ℕ → Type 0
+IsJudgedWhole Frame t = Unit {0}
+
+-- the jobs whose input has a limit that is no fault of its form
+abbrev pub HasLimit : Job → Type 0
+HasLimit Frame = ⊥
+
 -- the jobs that read their input
 abbrev pub Reads : Job → Type 0
 Reads Frame = Unit {0}
@@ -77,7 +89,7 @@ abbrev pub MalformedIsJudged : Run → Type 0
 MalformedIsJudged r = r.status ≡ 3 → IsSome (job r.words) × IfSome (job r.words) (λ j.
     let s = counted j (taken r) in
     Found j s (λ found.
-    (((r.rest ≡ []) × ((verdict j s found).status ≡ 3)) ⊎ IsTrue (is_decided j s found))
+    (((r.rest ≡ []) × IsJudgedWhole j (taken r) × ((verdict j s found).status ≡ 3)) ⊎ IsTrue (is_decided j s found))
     × (r.at ≡ (verdict j s found).at) × Wrote r (output j s found)))
 
 -- A fault of the source: what is whole was written, and the place is how many octets were taken.
@@ -103,6 +115,10 @@ abbrev pub StepsAreBounded : Run → Type 0
 StepsAreBounded r = IfSome (job r.words) (λ j.
     r.steps_after ≤ r.steps_before + sum_by (λ frame. 16 * length frame + 1) (frames j (counted j (taken r))))
 
+-- No more octets are taken than the job has a use for.
+abbrev pub TakesWithinReach : Run → Type 0
+TakesWithinReach r = IfSome (job r.words) (λ j. IsWithinReach j (taken r))
+
 -- the status that a whole input has
 abbrev pub HasStatusOf : Job → List ℕ → (status : ℕ) → Type 0
 HasStatusOf Frame input status = Found Frame input (λ found. status ≡ (verdict Frame input found).status)
@@ -116,6 +132,7 @@ AnswersAsJudged r = (SourceFailed r → ⊥) → (SinkFailed r → ⊥) → r.st
 pub record IsRightRun (r : Run) : Type 0 where
   -- octets were taken from the front of the input
   pub front : r.input ≡ taken r ++ r.rest
+  pub reach : TakesWithinReach r
   pub done : DoneIsJudged r
   pub malformed : MalformedIsJudged r
   pub source_fault : SourceFaultLeavesBody r
@@ -132,14 +149,18 @@ pub record IsRightWriting (words : List (List ℕ)) (status : ℕ) (before after
   pub usage_cut : status ≡ 6 → IfNone (job words) (WroteFront usage_line before after)
   pub memory : status ≡ 4 → Appends [] before after
 
--- Words that are no job: the usage, and nothing was pulled.
-pub record IsUsage (words : List (List ℕ)) (status at : ℕ) (Unread : Type 0) : Type 0 where
-  pub told : IsNone (job words) → ((status ≡ 2) ⊎ (status ≡ 6)) × Unread
+-- Words that are no job: the usage; nothing was pulled, and no step was taken.
+pub record IsUsage (words : List (List ℕ)) (status at steps_before steps_after : ℕ) (Unread : Type 0) : Type 0 where
+  pub told : IsNone (job words) → ((status ≡ 2) ⊎ (status ≡ 6)) × Unread × (steps_after ≡ steps_before)
   pub only : status ≡ 2 → IsNone (job words) × (at ≡ 0)
 
 -- Want of memory: it comes for a job, before anything was read or written.
 abbrev pub IsWant : (words : List (List ℕ)) → (status at : ℕ) → (Unread Unwritten : Type 0) → Type 0
 IsWant words status at Unread Unwritten = status ≡ 4 → IsSome (job words) × (at ≡ 0) × Unread × Unwritten
+
+-- The limit of an input is passed by a job that has one alone.
+abbrev pub IsPassing : (words : List (List ℕ)) → (status : ℕ) → Type 0
+IsPassing words status = status ≡ 7 → IsSome (job words) × IfSome (job words) HasLimit
 
 -- Faults of the source and of the sink come only where they were counted.
 pub record AreCounted (status at : ℕ) (source_before source_after sink_before sink_after : ℕ) : Type 0 where

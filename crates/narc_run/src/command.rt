@@ -1,6 +1,6 @@
 //! The one call that does all that the program does.
 ghost use Rattle.std.specs.Prelude.{◌≡◌, ◌≤◌};
-ghost use Rattle.narc_run.specs.Run.{AreCounted, IsRightRun, IsRightWriting, IsUsage, IsWant, Told};
+ghost use Rattle.narc_run.specs.Run.{AreCounted, IsPassing, IsRightRun, IsRightWriting, IsUsage, IsWant, Told};
 
 use crate::frame::run_frame;
 use crate::job::Job;
@@ -23,8 +23,9 @@ pub fn run<S: Source, K: Sink, L: Ledger>(
     steps: &mut Steps<L>,
 ) -> Outcome
     ensures status { result.status ≤ 7 }
-    // Words that are no job, want of memory, and faults, whatever source and sink tell.
-    ensures usage { IsUsage words.now result.status result.at (source.new ≡ source.old) }
+    // Words that are no job, limits, want of memory, and faults, whatever source and sink tell.
+    ensures usage { IsUsage words.now result.status result.at steps.old steps.new (source.new ≡ source.old) }
+    ensures limit { IsPassing words.now result.status }
     ensures memory { IsWant words.now result.status result.at (source.new ≡ source.old) (sink.new ≡ sink.old) }
     ensures faults { AreCounted result.status result.at (S.faults source.old) (S.faults source.new) (K.faults sink.old) (K.faults sink.new) }
 

@@ -1,5 +1,5 @@
 //! The job `frame`: one raw frame, the whole input.
-ghost use Rattle.std.specs.Prelude.{◌≡◌, ◌+◌, ◌*◌, ◌≤◌, length, MatchResult, OnErr, IfErr};
+ghost use Rattle.std.specs.Prelude.{◌≡◌, ◌+◌, ◌*◌, ◌≤◌, length, IfOk, MatchResult, OnErr};
 ghost use Rattle.narc_world.specs.Outside.{IsPushed, Rose};
 ghost use Rattle.narc_stack.specs.AnswerView.{answer_view};
 ghost use Rattle.narc_packet.specs.PacketView.{view};
@@ -84,6 +84,7 @@ fn answer_frame<K: Sink, L: Ledger>(
 ) -> Result<Outcome, Failed>
     requires { length octets.now ≤ MAX_FRAME }
     ensures told { MatchResult result (λ outcome. IsAnswered octets.now outcome.status outcome.at (K.held sink.old) (K.held sink.new)) (λ _. IsCut octets.now (K.held sink.old) (K.held sink.new)) }
+    ensures status { IfOk result (λ outcome. outcome.status ≤ 3) }
     ensures cost { steps.new ≤ steps.old + (16 * length octets.now + 1) }
     ensures later { K.faults sink.old ≤ K.faults sink.new }
     ensures cause { OnErr result (Rose (K.faults sink.old) (K.faults sink.new)) }
@@ -108,6 +109,7 @@ pub(crate) fn run_frame<S: Source, K: Sink, L: Ledger>(
 ) -> Outcome
     requires { length buffer.old ≡ 262145 }
     ensures run { FrameRun (S.left source.old) (S.left source.new) (K.held sink.old) (K.held sink.new) steps.old steps.new result.status result.at }
+    ensures status { result.status ≤ 6 }
     ensures source_later { S.faults source.old ≤ S.faults source.new }
     ensures sink_later { K.faults sink.old ≤ K.faults sink.new }
     ensures source_cause { result.status ≡ 5 → Rose (S.faults source.old) (S.faults source.new) }

@@ -18,6 +18,24 @@ const OTHER_LINE: &[u8] = b"ok eth 0200000000aa 0200000000bb other 34997 00\n";
 const USAGE_LINE: &[u8] =
     b"usage: narc frame|show|check|build|rewrite [SET]...|patch [SET]...|trial SEED COUNT|version\n";
 
+/// An ARP request (RFC 826), and 18 octets of padding.
+const ARP: [u8; 60] = [
+    2, 0, 0, 0, 0, 0xaa, // destination
+    2, 0, 0, 0, 0, 0xbb, // source
+    8, 6, // type: ARP
+    0, 1, // hardware: Ethernet
+    8, 0, // protocol: IPv4
+    6, 4, // sizes of the addresses
+    0, 1, // operation: request
+    2, 0, 0, 0, 0, 0xbb, 10, 0, 0, 1, // sender
+    0, 0, 0, 0, 0, 0, 10, 0, 0, 2, // target
+    0xaa, 0xaa, 0xaa, 0xaa, 0xaa, 0xaa, 0xaa, 0xaa, 0xaa, // padding
+    0xaa, 0xaa, 0xaa, 0xaa, 0xaa, 0xaa, 0xaa, 0xaa, 0xaa,
+];
+
+const ARP_LINE: &[u8] =
+    b"ok eth 0200000000aa 0200000000bb arp 1 0200000000bb 10.0.0.1 000000000000 10.0.0.2\n";
+
 /// A source and a sink in memory, before a run.
 #[derive(Drop)]
 struct World<'a> {
@@ -157,6 +175,26 @@ fn a_failing_push_leaves_a_front_of_the_line(rt: HostRuntime) -> Result<(), Fail
     assert_eq!(rt; told.outcome.status, 6);
     assert_eq!(rt; told.outcome.at, 0);
     assert!(rt; OTHER_LINE.starts_with(told.written.bytes()));
+    Ok(())
+}
+
+#[test]
+fn the_padding_of_an_arp_packet_plays_no_part(rt: HostRuntime) -> Result<(), Fail> {
+    let padded = end_of(rt.alloc(), &["frame"], World::of(&ARP))?;
+    check(&rt, &padded, 0, 0, ARP_LINE);
+    let bare = end_of(rt.alloc(), &["frame"], World::of(&ARP[..42]))?;
+    check(&rt, &bare, 0, 0, ARP_LINE);
+    Ok(())
+}
+
+#[test]
+fn an_arp_packet_is_refused_at_its_first_wrong_field(rt: HostRuntime) -> Result<(), Fail> {
+    let mut frame = ARP;
+    frame[15] = 6;
+    let hardware = end_of(rt.alloc(), &["frame"], World::of(&frame))?;
+    check(&rt, &hardware, 1, 0, b"refused arp.hardware 14\n");
+    let operation = end_of(rt.alloc(), &["frame"], World::of(&ARP[..21]))?;
+    check(&rt, &operation, 1, 0, b"refused arp.operation 20\n");
     Ok(())
 }
 

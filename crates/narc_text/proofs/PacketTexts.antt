@@ -3,7 +3,8 @@ use Rattle.std.proofs.Common.{◌≡◌, ℕ, List, [], ◌∷◌, ◌++◌, len
 use Rattle.narc_packet.specs.declared.packet.Arp.{Arp}
 use Rattle.narc_packet.specs.PacketView.{PacketView, EthBodyView, ArpBody, OtherBody}
 use Rattle.narc_packet.specs.TextWords.{hex_word, mac_word, ip_word}
-use Rattle.narc_text.specs.PacketText.{addresses, eth_body_words, spaced, text}
+use Rattle.narc_text.specs.Printing.{addresses}
+use Rattle.narc_text.specs.PacketText.{eth_body_words, spaced, text}
 
 text_of : (dst src : List ℕ) (body : EthBodyView) → text (record { dst = dst; src = src; body = body }) ≡ addresses dst src ++ (codes " " ++ spaced (eth_body_words body))
 text_of dst src (ArpBody a) = simp append_assoc

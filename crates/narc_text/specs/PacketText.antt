@@ -1,5 +1,5 @@
 -- The text of a packet: words separated by one space.
-use Rattle.std.specs.Prelude.{ℕ, List, [], ◌∷◌, ◌++◌, codes, decimal}
+use Rattle.std.specs.Prelude.{ℕ, List, [], ◌∷◌, codes, decimal}
 use Rattle.std.specs.List.{join_with_byte}
 use Rattle.narc_packet.specs.PacketView.{PacketView, EthBodyView, ArpBody, OtherBody}
 use Rattle.narc_packet.specs.TextWords.{hex_word, mac_word, ip_word}
@@ -12,10 +12,6 @@ eth_body_words (ArpBody a) =
     codes "arp" ∷ decimal a.op ∷ mac_word a.sender_mac ∷ ip_word a.sender_ip
     ∷ mac_word a.target_mac ∷ ip_word a.target_ip ∷ []
 eth_body_words (OtherBody ether_type payload) = codes "other" ∷ decimal ether_type ∷ hex_word payload ∷ []
-
--- the front of each packet's text
-abbrev pub addresses : (dst src : List ℕ) → List ℕ
-addresses dst src = codes "eth " ++ mac_word dst ++ codes " " ++ mac_word src
 
 abbrev pub text : PacketView → List ℕ
 text p = spaced (codes "eth" ∷ mac_word p.dst ∷ mac_word p.src ∷ eth_body_words p.body)

@@ -1,5 +1,6 @@
 -- Printing by way of a page: what is printed is appended to the page, and the page goes to the sink when it is full.
-use Rattle.std.specs.Prelude.{◌≡◌, ℕ, List, ◌++◌, Option, Result, Ok, Err}
+use Rattle.std.specs.Prelude.{◌≡◌, ℕ, List, ◌++◌, codes, Option, Result, Ok, Err}
+use Rattle.narc_packet.specs.TextWords.{mac_word}
 use Rattle.narc_world.specs.declared.error.Failed.{Failed}
 use Rattle.narc_world.specs.Outside.{Appends}
 
@@ -15,6 +16,10 @@ pub record Stops (gathered : List ℕ) (before after : Option (List ℕ)) : Type
   pub appended : Appends pushed before after
   pub lost : List ℕ
   pub split : gathered ≡ pushed ++ lost
+
+-- the words that each packet's text begins with
+abbrev pub addresses : (dst src : List ℕ) → List ℕ
+addresses dst src = codes "eth " ++ mac_word dst ++ codes " " ++ mac_word src
 
 -- a page, and these octets behind it, are gathered
 abbrev pub IsPrinted : Result Unit Failed → (octets page page_after : List ℕ) → (before after : Option (List ℕ)) → Type 0

@@ -2,8 +2,8 @@
 ghost use Rattle.std.specs.Prelude.{◌≡◌, ◌+◌, ◌≤◌, ◌++◌, codes, length, OnErr};
 ghost use Rattle.narc_packet.specs.PacketView.{ArpBody, OtherBody, view, eth_body_view};
 ghost use Rattle.narc_world.specs.Outside.{Rose, IsPushed};
-ghost use Rattle.narc_text.specs.PacketText.{addresses, eth_body_words, spaced, text};
-ghost use Rattle.narc_text.specs.Printing.{IsPrinted};
+ghost use Rattle.narc_text.specs.PacketText.{eth_body_words, spaced, text};
+ghost use Rattle.narc_text.specs.Printing.{addresses, IsPrinted};
 
 use crate::page::Page;
 use crate::words::{print_hex, put_decimal, put_digits, put_ip};
@@ -79,7 +79,8 @@ fn print_body<K: Sink>(body: &EthBody<'_>, page: &mut Page, sink: &mut K) -> Res
     }
 }
 
-/// Prints the text of a packet, without a line end.
+/// Prints the text of a packet behind what is on the page, without a line end. A page that is full goes to the sink;
+/// `Failed` only where the sink failed.
 pub fn print_packet<K: Sink>(
     packet: &Packet<'_>,
     page: &mut Page,

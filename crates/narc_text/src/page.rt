@@ -27,7 +27,7 @@ impl Model for Page {
 }
 
 impl Page {
-    /// An empty page.
+    /// A page of 8,192 octets, none of which is taken.
     pub fn new() -> Page
         ensures { result ≡ [] }
     {
@@ -36,7 +36,7 @@ impl Page {
         }
     }
 
-    /// Appends octets for which there is room.
+    /// Appends octets, for which there is room.
     pub fn put(&mut self, octets: &[u8])
         requires { length self.old + length octets.now ≤ 8192 }
         ensures { self.new ≡ self.old ++ octets.now }
@@ -44,7 +44,7 @@ impl Page {
         self.octets.try_extend_from_slice(octets).unwrap();
     }
 
-    /// Pushes what is on the page, in one push.
+    /// Pushes what is on the page, in one push, and clears it. `Failed` only where the sink failed.
     pub fn flush<K: Sink>(&mut self, sink: &mut K) -> Result<(), Failed>
         ensures printed { IsPrinted result [] self.old self.new (K.held sink.old) (K.held sink.new) }
         ensures empty { OnOk result (self.new ≡ []) }
@@ -56,7 +56,8 @@ impl Page {
         Ok(())
     }
 
-    /// Sees that there is room for `count` octets, by a push where there is not.
+    /// Sees that there is room for `count` octets, by a push of the page where there is not. `Failed` only where the sink
+    /// failed.
     pub fn make_room<K: Sink>(&mut self, count: usize, sink: &mut K) -> Result<(), Failed>
         requires { count ≤ 8192 }
         ensures printed { IsPrinted result [] self.old self.new (K.held sink.old) (K.held sink.new) }

@@ -14,7 +14,7 @@ pub trait Sink {
     ghost faults: { Self → ℕ };
 
     /// Puts the octets at the end of what is held: all of them, or a front of them where the sink
-    /// fails.
+    /// fails. `Failed` only where the count of faults rose, or stands at its last value.
     fn push(&mut self, bytes: &[u8]) -> Result<(), Failed>
         ensures octets { IsPushed result (held self.old) (held self.new) bytes.now }
         ensures later { faults self.old ≤ faults self.new }

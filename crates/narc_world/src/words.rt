@@ -1,6 +1,6 @@
 //! The words of a command.
 
-ghost use Rattle.std.specs.Prelude.{◌≡◌, ◌<◌, ◌++◌, ◌∷◌, [], if◌then◌else◌, length, is_ok, slice_index_or};
+ghost use Rattle.std.specs.Prelude.{◌≡◌, ◌<◌, ◌++◌, ◌∷◌, [], if◌then◌else◌, length, is_ok, slice_get, Some};
 
 use super::error::NoMemory;
 use std::alloc::Global;
@@ -50,7 +50,7 @@ impl Words {
     /// The word with this number, counted from 0.
     pub fn word(&self, i: usize) -> &str
         requires { i < length self.now }
-        ensures word { result.now ≡ slice_index_or self.now i result.now }
+        ensures word { slice_get self.now i ≡ Some result.now }
     {
         &self.words[i]
     }

@@ -1,7 +1,6 @@
 use Rattle.std.proofs.Common.{sym, subst}
 use Rattle.narc_packet.specs.PacketView.{view}
-use Rattle.narc_text.specs.Printing.{IsPrinted}
-use Rattle.narc_text.specs.PacketText.{addresses}
+use Rattle.narc_text.specs.Printing.{addresses, IsPrinted}
 use Rattle.narc_text.proofs.PacketTexts.{text-parts}
 use Rattle.narc_text.proofs.Printings.{IsPrinted-then, Passes-room}
 use Rattle.narc_text.proofs.packet.print_packet.Goals as goal
