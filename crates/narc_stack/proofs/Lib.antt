@@ -1,1 +1,5 @@
-pub mod Frames
+pub mod Bodies
+pub mod FrameSound
+pub mod FrameOctets
+pub mod FrameRows
+pub mod FrameAnswers

@@ -1,2 +1,4 @@
 pub mod AnswerView
 pub mod Unbuilt
+pub mod RawFrame
+pub mod WholeFrame

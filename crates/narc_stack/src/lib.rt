@@ -2,9 +2,14 @@
 #![tactic(auto)]
 
 mod decode;
+mod frame;
 mod refusal;
 mod unread;
 
 pub use decode::decode_frame;
+pub use frame::{
+    AsPacket, ByType, Frame, ShortestFrame, TypeOfHeader, frame_is_its_octets,
+    frame_is_refused_by_row, frame_is_sound, octets_are_a_frame_or_refused,
+};
 pub use refusal::Refusal;
 pub use unread::unbuilt;

@@ -1,14 +1,32 @@
-use Rattle.std.proofs.Common.{◌≡◌, ◌≢◌, ◌≤◌, length, sym, ◌∙◌, arith}
-use Rattle.std.proofs.lemmas.List.{take_rest}
-use Rattle.narc_bits.specs.Octets.{number_at}
+use Rattle.std.proofs.Common.{arith}
 use Rattle.narc_bits.proofs.Octets.{IsOctets-from_index}
-use Rattle.narc_stack.proofs.Frames.{IsFrame-other, unread_type}
+use Rattle.narc_stack.proofs.FrameSound.{frame_sound}
+use Rattle.narc_stack.proofs.FrameAnswers.{only_packet, only_refusal, stood_whole, refused_whole, cost_took, cost_refused}
 use Rattle.narc_stack.proofs.decode.decode_frame.Goals as goal
 
-pub returns-clause-answer : goal.returns-clause-answer
-returns-clause-answer g c =
-    let frame = c.args.bytes.now in
-    let long : 14 ≤ length frame = omega arith in
-    let unread = unread_type frame long c.requires.built in
-    IsFrame-other frame _ _ _ _ (IsOctets-from_index frame (λ i. omega (arith, c.type_inv.bytes i))) long c.address_at.ensures c.address_at-2.ensures
-    (take_rest frame 14) c.ether_type.ensures (λ e. unread.0 (sym c.ether_type.ensures ∙ e)) (λ e. unread.1 (sym c.ether_type.ensures ∙ e))
+pub read-requires-clause-sound : goal.read-requires-clause-sound
+read-requires-clause-sound g c = frame_sound
+
+pub returns-in-Ok-clause-only : goal.returns-in-Ok-clause-only
+returns-in-Ok-clause-only g c =
+    let b = c.args.bytes.now in
+    only_packet b (IsOctets-from_index b (λ i. omega (arith, c.type_inv.bytes i))) c.requires.built c.in-Ok.packet
+    (stood_whole b _ _ _ _ c.new-cursor.ensures c.in-Ok.packet c.in-Ok.ensures)
+
+pub returns-in-Ok-clause-answer : goal.returns-in-Ok-clause-answer
+returns-in-Ok-clause-answer g c = (returns-in-Ok-clause-only g c).right
+
+pub returns-in-Ok-clause-cost : goal.returns-in-Ok-clause-cost
+returns-in-Ok-clause-cost g c = cost_took c.args.bytes.now _ _ _ _ c.new-cursor.ensures c.in-Ok.packet c.in-Ok.ensures
+
+pub returns-in-Err-clause-only : goal.returns-in-Err-clause-only
+returns-in-Err-clause-only g c =
+    let b = c.args.bytes.now in
+    only_refusal b (IsOctets-from_index b (λ i. omega (arith, c.type_inv.bytes i))) c.requires.built c.in-Err.fault
+    (refused_whole b _ _ _ _ c.new-cursor.ensures c.in-Err.fault c.in-Err.ensures)
+
+pub returns-in-Err-clause-answer : goal.returns-in-Err-clause-answer
+returns-in-Err-clause-answer g c = (returns-in-Err-clause-only g c).right
+
+pub returns-in-Err-clause-cost : goal.returns-in-Err-clause-cost
+returns-in-Err-clause-cost g c = cost_refused c.args.bytes.now _ _ _ _ c.new-cursor.ensures c.in-Err.fault c.in-Err.ensures

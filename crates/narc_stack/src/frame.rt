@@ -1,0 +1,152 @@
+//! Whole Ethernet frames.
+ghost use Rattle.std.specs.Prelude.{◌≡◌, ◌↔◌, ◌⊎◌, ℕ, ◌<◌, ◌≤◌, ◌^◌, List, length, Some, None};
+ghost use Rattle.narc_bits.specs.Octets.{IsOctets};
+ghost use Rattle.narc_bits.specs.Bits.{bits};
+ghost use Rattle.narc_format.specs.declared.fault.Fault.{Fault};
+ghost use Rattle.narc_packet.specs.declared.packet.Packet.{Packet};
+ghost use Rattle.narc_packet.specs.PacketView.{PacketView, view};
+ghost use Rattle.narc_packet.specs.Frame.{IsFrame};
+ghost use Rattle.narc_packet.specs.Refusal.{RefusalView, rows_for, refusal};
+ghost use Rattle.narc_eth.specs.FirstFault.{IsFirstFault};
+ghost use Rattle.narc_stack.specs.RawFrame.{packet_of, raw_frame, SamePacket};
+ghost use Rattle.narc_stack.specs.WholeFrame.{by_type};
+ghost use Rattle.narc_stack.specs.Unbuilt.{unbuilt_at};
+
+use narc_bits::Cursor;
+use narc_compose::{Carry, Choose, Either, Pick, SeqTail, Strip, Union};
+use narc_eth::{ArpFormat, EthHead};
+use narc_format::Tail;
+use narc_list::{Bytes, Pad};
+use narc_packet::{Arp, EthBody, Packet};
+
+/// The Ethernet type of ARP (RFC 826).
+const ARP: u64 = 0x0806;
+
+/// The fields of an Ethernet header: destination, source and type.
+type Header = ([u8; 6], ([u8; 6], u64));
+
+/// An ARP packet before its padding, or the data of another type.
+type Body<'a> = Either<(Arp, ()), &'a [u8]>;
+
+/// An ARP packet, and any padding behind it.
+type PaddedArp = SeqTail<ArpFormat, Pad, ShortestFrame>;
+
+/// A whole Ethernet II frame (RFC 894): the header, and what its type says.
+///
+/// ARP is read (RFC 826), with any octets behind it. The data of every other type is kept unread.
+pub type Frame = Strip<SeqTail<EthHead, Union<ByType, PaddedArp, Bytes>, TypeOfHeader>, AsPacket>;
+
+/// Padding that fills a frame of 60 octets behind 14 of the header and 28 of ARP.
+pub struct ShortestFrame;
+
+impl Carry<Arp, (), usize> for ShortestFrame {
+    type Ctx = ();
+
+    ghost first_of = { λ c. c };
+
+    ghost second_of = { λ c a. 18 };
+
+    ghost valid = { λ c. Unit {0} };
+
+    fn first(_ctx: ()) {}
+
+    fn second(_ctx: (), _arp: &Arp) -> usize {
+        60 - 14 - 28
+    }
+}
+
+/// What is behind the header is read by its type.
+pub struct TypeOfHeader;
+
+impl Carry<Header, (), u64> for TypeOfHeader {
+    type Ctx = ();
+
+    ghost first_of = { λ c. c };
+
+    ghost second_of = { λ c h. h.1.1 };
+
+    ghost valid = { λ c. Unit {0} };
+
+    fn first(_ctx: ()) {}
+
+    fn second(_ctx: (), header: &Header) -> u64 {
+        header.1.1
+    }
+}
+
+/// ARP, or data that is kept unread.
+pub struct ByType;
+
+impl Pick<(), ()> for ByType {
+    type Ctx = u64;
+
+    ghost pick_of = { by_type };
+
+    ghost valid = { λ ether_type. ether_type < 2 ^ 64 };
+
+    fn pick(ether_type: u64) -> Either<(), ()> {
+        if ether_type == ARP {
+            Either::Left(())
+        } else {
+            Either::Right(())
+        }
+    }
+}
+
+/// The fields of a frame as its packet.
+pub struct AsPacket;
+
+impl<'a> Choose<(), (Header, Body<'a>)> for AsPacket {
+    type Value = Packet<'a>;
+
+    ghost strip_of = { packet_of };
+
+    ghost choose_of = { λ c p. raw_frame p };
+
+    ghost alike = { SamePacket };
+
+    fn strip(raw: (Header, Body<'a>)) -> Packet<'a> {
+        let ((dst, (src, ether_type)), body) = raw;
+        let body = match body {
+            Either::Left((arp, ())) => EthBody::Arp(arp),
+            Either::Right(payload) => EthBody::Other {
+                ether_type: (ether_type % 65536) as u16,
+                payload,
+            },
+        };
+        Packet { dst, src, body }
+    }
+
+    fn choose(_ctx: (), packet: &Packet<'a>) -> (Header, Body<'a>) {
+        let (ether_type, body) = match &packet.body {
+            EthBody::Arp(arp) => (ARP, Either::Left((*arp, ()))),
+            EthBody::Other {
+                ether_type,
+                payload,
+            } => (u64::from(*ether_type), Either::Right(*payload)),
+        };
+        ((packet.dst, (packet.src, ether_type)), body)
+    }
+}
+
+/// The conditions of the rules hold.
+pub fn frame_is_sound()
+    ensures { ⟦<Frame as Tail<Cursor<'static>>>⟧.meaning.sound }
+{}
+
+/// Octets stand for a packet exactly where they are a frame of it.
+pub fn frame_is_its_octets()
+    ensures { (p : Packet) (b : List ℕ) → IsOctets b → unbuilt_at b ≡ None → ⟦<Frame as Tail<Cursor<'static>>>⟧.meaning.stands tt p (bits b) ↔ IsFrame (view p) b }
+{}
+
+/// Octets are refused exactly where a row fails, with the field and the place of the first.
+pub fn frame_is_refused_by_row()
+    ensures { (b : List ℕ) → IsOctets b → (f : Fault) → ⟦<Frame as Tail<Cursor<'static>>>⟧.meaning.refuses tt (bits b) f ↔ IsFirstFault 0 (rows_for b) f }
+{}
+
+/// Octets are a frame of one packet, or they are refused, and never both.
+pub fn octets_are_a_frame_or_refused()
+    ensures either { (b : List ℕ) → IsOctets b → length b ≤ 262144 → unbuilt_at b ≡ None → ((p : PacketView) × IsFrame p b) ⊎ ((r : RefusalView) × (refusal b ≡ Some r)) }
+    ensures never_both { (b : List ℕ) (p : PacketView) → unbuilt_at b ≡ None → IsFrame p b → refusal b ≡ None }
+    ensures one_packet { (b : List ℕ) (p q : PacketView) → unbuilt_at b ≡ None → IsFrame p b → IsFrame q b → p ≡ q }
+{}
