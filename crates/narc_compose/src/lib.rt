@@ -4,6 +4,7 @@
 mod either;
 mod named;
 mod named_tail;
+mod part;
 mod seq;
 mod seq_tail;
 mod strip;
@@ -16,6 +17,7 @@ mod whole;
 
 pub use either::Either;
 pub use named::Named;
+pub use part::{Part, Parted};
 pub use seq::{Carry, Seq};
 pub use seq_tail::SeqTail;
 pub use strip::{Choose, Strip};

@@ -1,9 +1,11 @@
 //! Each rule at concrete types, through its bound.
 ghost use Rattle.std.specs.Prelude.{◌≡◌, ℕ, ◌*◌, ◌<◌, ◌≤◌, ◌^◌, length, nat_eq, if◌then◌else◌};
+ghost use Rattle.narc_list.specs.Bytes.{all_octets};
+ghost use Rattle.narc_list.specs.BytesLaws.{all_octets_laws};
 ghost use Rattle.narc_compose.specs.declared.either.Either.{Either};
 ghost use Rattle.narc_compose.specs.declared.either.Either.TheVariants.{Left, Right};
 
-use crate::{Carry, Choose, Either, Named, Pick, Seq, SeqTail, Strip, Union, Whole};
+use crate::{Carry, Choose, Either, Named, Part, Parted, Pick, Seq, SeqTail, Strip, Union, Whole};
 use narc_bits::{Cursor, Input, Steps, Writer};
 use narc_format::field::{
     IPV4_HEADER_LENGTH, IPV4_VERSION, UDP_DESTINATION, UDP_LENGTH, UDP_SOURCE,
@@ -111,9 +113,38 @@ impl<'a> Choose<(), (u64, &'a [u8])> for WithoutOctet {
     }
 }
 
+/// All octets, by their calls alone.
+struct Payload;
+
+impl<'a> Part<Cursor<'a>> for Payload {
+    type Ctx = ();
+
+    type Value = &'a [u8];
+
+    ghost meaning = { all_octets };
+
+    fn read<L: Ledger>(
+        ctx: (),
+        cursor: &mut Cursor<'a>,
+        steps: &mut Steps<L>,
+    ) -> Result<&'a [u8], Fault> {
+        <Bytes as Tail<Cursor<'a>>>::read(ctx, cursor, steps)
+    }
+
+    fn size(ctx: (), value: &&'a [u8]) -> usize {
+        <Bytes as Tail<Cursor<'a>>>::size(ctx, value)
+    }
+
+    fn write(ctx: (), value: &&'a [u8], room: &mut [u8], writer: &mut Writer) {
+        <Bytes as Tail<Cursor<'a>>>::write(ctx, value, room, writer)
+    }
+
+    ghost laws = { all_octets_laws };
+}
+
 type Ports = Seq<Named<Word<16>, UDP_SOURCE>, Named<Word<16>, UDP_DESTINATION>, Nothing>;
 
-type Datagram = SeqTail<Ports, Bytes, Nothing>;
+type Datagram = SeqTail<Ports, Parted<Payload>, Nothing>;
 
 type Kinded = Seq<Word<8>, Union<ByKind, Word<8>, Word<16>>, Kind>;
 

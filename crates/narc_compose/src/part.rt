@@ -1,0 +1,86 @@
+//! A tail by its calls alone.
+ghost use Rattle.std.specs.Prelude.{◌≡◌, ◌+◌, ◌*◌, ◌%◌, ◌≤◌, length, MatchResult};
+ghost use Rattle.narc_bits.specs.Bits.{bits, overlay};
+ghost use Rattle.narc_format.specs.Meaning.{Meaning};
+ghost use Rattle.narc_format.specs.Reading.{TookAll, Refused};
+ghost use Rattle.narc_format.specs.Laws.{TailLaws};
+
+use narc_bits::{Input, Steps, Writer};
+use narc_format::{Fault, Tail};
+use std::marker::PhantomData;
+use std::sync::ledger::Ledger;
+
+/// A tail by its calls alone, which names no type that it is built of.
+///
+/// A call's check goes through the whole type of its format. A long type is cut at parts: a part has the meaning of a
+/// tail as one name, and each of its calls hands on to that tail's own.
+pub trait Part<I: Input> {
+    /// What reading and writing depend on beside the bits.
+    type Ctx: Copy;
+
+    type Value: Drop;
+
+    ghost meaning: { Meaning Self.Ctx Self.Value };
+
+    /// Reads a value out of all the bits left, or refuses them.
+    fn read<L: Ledger>(
+        ctx: Self::Ctx,
+        cursor: &mut I,
+        steps: &mut Steps<L>,
+    ) -> Result<Self::Value, Fault>
+        requires sound { meaning.sound }
+        requires aligned { (I.scan cursor.old).place % 8 ≡ 0 }
+        ensures { MatchResult result (TookAll meaning ctx (I.scan cursor.old) (I.scan cursor.new) steps.old steps.new) (Refused meaning ctx (I.scan cursor.old) (I.scan cursor.new) steps.old steps.new) };
+
+    /// How many bits the spelling has.
+    fn size(ctx: Self::Ctx, value: &Self::Value) -> usize
+        requires sound { meaning.sound }
+        requires admitted { meaning.admits ctx value.now }
+        requires small { length (meaning.spelling ctx value.now) ≤ 8 * 262144 }
+        ensures { result ≡ length (meaning.spelling ctx value.now) };
+
+    /// Puts the spelling into the room at the writer's place, and moves past it.
+    fn write(ctx: Self::Ctx, value: &Self::Value, room: &mut [u8], writer: &mut Writer)
+        requires sound { meaning.sound }
+        requires admitted { meaning.admits ctx value.now }
+        requires small { length room.old ≤ 262144 }
+        requires enough { writer.old + length (meaning.spelling ctx value.now) ≤ 8 * length room.old }
+        requires aligned { writer.old % 8 ≡ 0 }
+        ensures len { length room.new ≡ length room.old }
+        ensures put { bits room.new ≡ overlay (bits room.old) writer.old (meaning.spelling ctx value.now) }
+        ensures moved { writer.new ≡ writer.old + length (meaning.spelling ctx value.now) };
+
+    ghost laws: { TailLaws meaning };
+}
+
+/// The tail that D names.
+///
+/// `Parted<D>`, whose D hands on to `Bytes`, reads `[7, 8]` where the octets 7 and 8 are left.
+/// It refuses what that tail refuses, with its fault; `Bytes` refuses nothing.
+pub struct Parted<D>(PhantomData<D>);
+
+impl<I: Input, D: Part<I>> Tail<I> for Parted<D> {
+    type Ctx = D::Ctx;
+
+    type Value = D::Value;
+
+    ghost meaning = { D.meaning };
+
+    fn read<L: Ledger>(
+        ctx: D::Ctx,
+        cursor: &mut I,
+        steps: &mut Steps<L>,
+    ) -> Result<D::Value, Fault> {
+        D::read(ctx, cursor, steps)
+    }
+
+    fn size(ctx: D::Ctx, value: &D::Value) -> usize {
+        D::size(ctx, value)
+    }
+
+    fn write(ctx: D::Ctx, value: &D::Value, room: &mut [u8], writer: &mut Writer) {
+        D::write(ctx, value, room, writer)
+    }
+
+    ghost laws = { D.laws };
+}
