@@ -1,7 +1,7 @@
 //! Packets as values. Slices lie in the octets that were read.
 
 /// The packet of an Ethernet II frame (RFC 894): two hardware addresses, and what the frame carries.
-#[derive(Drop)]
+#[derive(Debug, Drop, PartialEq, Eq)]
 pub struct Packet<'a> {
     /// The destination's hardware address.
     pub dst: [u8; 6],
@@ -11,7 +11,7 @@ pub struct Packet<'a> {
 }
 
 /// What an Ethernet frame carries.
-#[derive(Drop)]
+#[derive(Debug, Drop, PartialEq, Eq)]
 pub enum EthBody<'a> {
     /// An ARP packet for Ethernet and IPv4.
     Arp(Arp),
@@ -20,7 +20,7 @@ pub enum EthBody<'a> {
 }
 
 /// An ARP packet for Ethernet and IPv4 (RFC 826): an operation, and the addresses of sender and target.
-#[derive(Clone, Copy, Drop)]
+#[derive(Clone, Copy, Debug, Drop, PartialEq, Eq)]
 pub struct Arp {
     /// The operation: 1 for a request, 2 for a reply, and any other number.
     pub op: u16,

@@ -8,25 +8,19 @@ ghost use Rattle.narc_packet.specs.PacketView.{PacketView, view};
 ghost use Rattle.narc_packet.specs.Frame.{IsFrame};
 ghost use Rattle.narc_packet.specs.Refusal.{RefusalView, rows_for, refusal};
 ghost use Rattle.narc_eth.specs.FirstFault.{IsFirstFault};
-ghost use Rattle.narc_stack.specs.RawFrame.{packet_of, raw_frame, SamePacket};
 ghost use Rattle.narc_stack.specs.WholeFrame.{by_type};
 ghost use Rattle.narc_stack.specs.Unbuilt.{unbuilt_at};
 
+use crate::as_packet::{AsPacket, Header};
 use narc_bits::Cursor;
-use narc_compose::{Carry, Choose, Either, Pick, SeqTail, Strip, Union};
+use narc_compose::{Carry, Either, Pick, SeqTail, Strip, Union};
 use narc_eth::{ArpFormat, EthHead};
 use narc_format::Tail;
 use narc_list::{Bytes, Pad};
-use narc_packet::{Arp, EthBody, Packet};
+use narc_packet::Arp;
 
 /// The Ethernet type of ARP (RFC 826).
-const ARP: u64 = 0x0806;
-
-/// The fields of an Ethernet header: destination, source and type.
-type Header = ([u8; 6], ([u8; 6], u64));
-
-/// An ARP packet before its padding, or the data of another type.
-type Body<'a> = Either<(Arp, ()), &'a [u8]>;
+pub(crate) const ARP: u64 = 0x0806;
 
 /// An ARP packet, and any padding behind it.
 type PaddedArp = SeqTail<ArpFormat, Pad, ShortestFrame>;
@@ -90,42 +84,6 @@ impl Pick<(), ()> for ByType {
         } else {
             Either::Right(())
         }
-    }
-}
-
-/// The fields of a frame as its packet.
-pub struct AsPacket;
-
-impl<'a> Choose<(), (Header, Body<'a>)> for AsPacket {
-    type Value = Packet<'a>;
-
-    ghost strip_of = { packet_of };
-
-    ghost choose_of = { λ c p. raw_frame p };
-
-    ghost alike = { SamePacket };
-
-    fn strip(raw: (Header, Body<'a>)) -> Packet<'a> {
-        let ((dst, (src, ether_type)), body) = raw;
-        let body = match body {
-            Either::Left((arp, ())) => EthBody::Arp(arp),
-            Either::Right(payload) => EthBody::Other {
-                ether_type: (ether_type % 65536) as u16,
-                payload,
-            },
-        };
-        Packet { dst, src, body }
-    }
-
-    fn choose(_ctx: (), packet: &Packet<'a>) -> (Header, Body<'a>) {
-        let (ether_type, body) = match &packet.body {
-            EthBody::Arp(arp) => (ARP, Either::Left((*arp, ()))),
-            EthBody::Other {
-                ether_type,
-                payload,
-            } => (u64::from(*ether_type), Either::Right(*payload)),
-        };
-        ((packet.dst, (packet.src, ether_type)), body)
     }
 }
 
