@@ -98,3 +98,13 @@ fn a_spare_octet_before_a_tail_is_forgotten_and_written_as_0(rt: HostRuntime) {
     assert!(rt; write_all::<Cursor<'_>, SpareTail>((), &[7].as_slice(), &mut room) == 16);
     assert!(rt; room == [0, 7, 0xff]);
 }
+
+#[test]
+fn the_member_that_the_first_part_picks_is_written(rt: HostRuntime) {
+    let mut room = [0xff, 0xff, 0xff, 0xff];
+    assert!(rt; write::<Cursor<'_>, Kinded>((), &(0, Either::Left(9)), &mut room) == 16);
+    assert!(rt; room == [0, 9, 0xff, 0xff]);
+    let mut room = [0xff, 0xff, 0xff, 0xff];
+    assert!(rt; write::<Cursor<'_>, Kinded>((), &(1, Either::Right(1800)), &mut room) == 24);
+    assert!(rt; room == [1, 7, 8, 0xff]);
+}
