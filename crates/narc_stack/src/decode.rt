@@ -11,7 +11,10 @@ use narc_format::Tail;
 use narc_packet::Packet;
 use std::sync::ledger::Ledger;
 
-/// The packet that the octets are a frame of, or the first field without an admissible reading.
+/// The packet that at most `MAX_FRAME` octets are an Ethernet II frame of (RFC 894, and RFC 826 for ARP).
+///
+/// The refusal names the first field in layout order without an admissible reading. A frame of IPv4 is not read yet:
+/// `unbuilt` tells it. The steps rise by at most 16 for each octet and one more.
 pub fn decode_frame<'a, L: Ledger>(
     bytes: &'a [u8],
     steps: &mut Steps<L>,
