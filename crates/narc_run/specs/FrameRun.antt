@@ -1,5 +1,5 @@
 -- How the job `frame` ends for a source and a sink.
-use Rattle.std.specs.Prelude.{◌≡◌, ℕ, ◌+◌, ◌*◌, ◌<◌, ◌≤◌, ◌⊎◌, List, length, Option}
+use Rattle.std.specs.Prelude.{◌≡◌, ℕ, ◌+◌, ◌*◌, ◌≤◌, ◌⊎◌, List, length, Option}
 use Rattle.narc_world.specs.Outside.{TakesFront, IsEmptyWhereTold, Appends}
 use Rattle.narc_run.specs.Job.{Frame}
 use Rattle.narc_run.specs.Findings.{Found}
