@@ -1,4 +1,5 @@
 //! Bits that are always the same.
+#![tactic(auto, unfolding(crate::specs::Constant::constant))]
 ghost use Rattle.narc_scalar.specs.Constant.{constant};
 ghost use Rattle.narc_scalar.specs.ConstantLaws.{constant_laws, constant_is_wide};
 
@@ -19,7 +20,6 @@ impl<I: Input, const N: u32, const V: u64> Format<I> for Const<N, V> {
 
     ghost meaning = { constant N V };
 
-    #[tactic(auto, unfolding(crate::specs::Constant::constant))]
     fn read<L: Ledger>(_ctx: (), cursor: &mut I, steps: &mut Steps<L>) -> Result<(), Fault> {
         match cursor.take_bits(N, steps) {
             Ok(number) => {
@@ -33,12 +33,10 @@ impl<I: Input, const N: u32, const V: u64> Format<I> for Const<N, V> {
         }
     }
 
-    #[tactic(auto, unfolding(crate::specs::Constant::constant))]
     fn size(_ctx: (), _value: &()) -> usize {
         N as usize
     }
 
-    #[tactic(auto, unfolding(crate::specs::Constant::constant))]
     fn write(_ctx: (), _value: &(), room: &mut [u8], writer: &mut Writer) {
         writer.put::<N>(room, V);
     }

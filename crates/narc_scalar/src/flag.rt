@@ -1,4 +1,5 @@
 //! One bit.
+#![tactic(auto, unfolding(crate::specs::Flag::flag))]
 ghost use Rattle.narc_scalar.specs.Flag.{flag};
 ghost use Rattle.narc_scalar.specs.FlagLaws.{flag_laws, flag_is_wide};
 
@@ -19,7 +20,6 @@ impl<I: Input> Format<I> for Flag {
 
     ghost meaning = { flag };
 
-    #[tactic(auto, unfolding(crate::specs::Flag::flag))]
     fn read<L: Ledger>(_ctx: (), cursor: &mut I, steps: &mut Steps<L>) -> Result<bool, Fault> {
         match cursor.take_bits(1, steps) {
             Ok(number) => Ok(number == 1),
@@ -27,12 +27,10 @@ impl<I: Input> Format<I> for Flag {
         }
     }
 
-    #[tactic(auto, unfolding(crate::specs::Flag::flag))]
     fn size(_ctx: (), _value: &bool) -> usize {
         1
     }
 
-    #[tactic(auto, unfolding(crate::specs::Flag::flag))]
     fn write(_ctx: (), value: &bool, room: &mut [u8], writer: &mut Writer) {
         writer.put::<1>(room, *value as u64);
     }

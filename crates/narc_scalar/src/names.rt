@@ -1,4 +1,5 @@
 //! Numbers that have names.
+#![tactic(auto, unfolding(crate::specs::Names::enumerated))]
 ghost use Rattle.std.specs.Prelude.{◌≡◌, ℕ, Option};
 ghost use Rattle.narc_scalar.specs.Names.{enumerated, IsExact};
 ghost use Rattle.narc_scalar.specs.NamesLaws.{enumerated_laws, enumerated_is_wide};
@@ -44,7 +45,6 @@ impl<I: Input, F: Format<I, Ctx = (), Value = u64>, M: Names> Format<I> for Enum
 
     ghost meaning = { enumerated M.number_of F.meaning };
 
-    #[tactic(auto, unfolding(crate::specs::Names::enumerated))]
     fn read<L: Ledger>(_ctx: (), cursor: &mut I, steps: &mut Steps<L>) -> Result<M::Value, Fault> {
         match F::read((), cursor, steps) {
             Ok(number) => match M::name(number) {
@@ -55,12 +55,10 @@ impl<I: Input, F: Format<I, Ctx = (), Value = u64>, M: Names> Format<I> for Enum
         }
     }
 
-    #[tactic(auto, unfolding(crate::specs::Names::enumerated))]
     fn size(_ctx: (), value: &M::Value) -> usize {
         F::size((), &M::number(value))
     }
 
-    #[tactic(auto, unfolding(crate::specs::Names::enumerated))]
     fn write(_ctx: (), value: &M::Value, room: &mut [u8], writer: &mut Writer) {
         F::write((), &M::number(value), room, writer)
     }
@@ -71,7 +69,6 @@ impl<I: Input, F: Format<I, Ctx = (), Value = u64>, M: Names> Format<I> for Enum
 impl<I: Input, F: Wide<I, Ctx = (), Value = u64>, M: Names> Wide<I> for EnumOf<F, M> {
     ghost width_of = { F.width_of };
 
-    #[tactic(auto, unfolding(crate::specs::Names::enumerated))]
     fn width() -> u32 {
         F::width()
     }

@@ -1,4 +1,5 @@
 //! A fixed number of octets.
+#![tactic(auto, unfolding(crate::specs::Octets::fixed_octets))]
 ghost use Rattle.std.specs.Prelude.{◌≡◌, ◌+◌, ◌*◌, ◌≤◌, length};
 ghost use Rattle.narc_bits.specs.Bits.{bits, overlay};
 ghost use Rattle.narc_scalar.specs.Octets.{fixed_octets};
@@ -40,7 +41,6 @@ impl<I: Input> Format<I> for Octets6 {
 
     ghost meaning = { fixed_octets 6 };
 
-    #[tactic(auto, unfolding(crate::specs::Octets::fixed_octets))]
     fn read<L: Ledger>(_ctx: (), cursor: &mut I, steps: &mut Steps<L>) -> Result<[u8; 6], Fault> {
         match cursor.take_bits(48, steps) {
             Ok(number) => {
@@ -51,12 +51,10 @@ impl<I: Input> Format<I> for Octets6 {
         }
     }
 
-    #[tactic(auto, unfolding(crate::specs::Octets::fixed_octets))]
     fn size(_ctx: (), _value: &[u8; 6]) -> usize {
         48
     }
 
-    #[tactic(auto, unfolding(crate::specs::Octets::fixed_octets))]
     fn write(_ctx: (), value: &[u8; 6], room: &mut [u8], writer: &mut Writer) {
         put_octets(value, room, writer);
     }
@@ -81,7 +79,6 @@ impl<I: Input> Format<I> for Octets4 {
 
     ghost meaning = { fixed_octets 4 };
 
-    #[tactic(auto, unfolding(crate::specs::Octets::fixed_octets))]
     fn read<L: Ledger>(_ctx: (), cursor: &mut I, steps: &mut Steps<L>) -> Result<[u8; 4], Fault> {
         match cursor.take_bits(32, steps) {
             Ok(number) => {
@@ -92,12 +89,10 @@ impl<I: Input> Format<I> for Octets4 {
         }
     }
 
-    #[tactic(auto, unfolding(crate::specs::Octets::fixed_octets))]
     fn size(_ctx: (), _value: &[u8; 4]) -> usize {
         32
     }
 
-    #[tactic(auto, unfolding(crate::specs::Octets::fixed_octets))]
     fn write(_ctx: (), value: &[u8; 4], room: &mut [u8], writer: &mut Writer) {
         put_octets(value, room, writer);
     }

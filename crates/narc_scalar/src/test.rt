@@ -1,4 +1,5 @@
 //! Formats whose values pass a test.
+#![tactic(auto, unfolding(crate::specs::Test::tested))]
 ghost use Rattle.std.specs.Prelude.{◌≡◌, Bool};
 ghost use Rattle.narc_scalar.specs.Test.{tested};
 ghost use Rattle.narc_scalar.specs.TestLaws.{tested_laws, tested_is_wide};
@@ -37,7 +38,6 @@ impl<I: Input, F: Format<I, Ctx = ()>, T: Test<Value = F::Value>> Format<I> for 
 
     ghost meaning = { tested T.holds F.meaning };
 
-    #[tactic(auto, unfolding(crate::specs::Test::tested))]
     fn read<L: Ledger>(
         ctx: T::Ctx,
         cursor: &mut I,
@@ -55,12 +55,10 @@ impl<I: Input, F: Format<I, Ctx = ()>, T: Test<Value = F::Value>> Format<I> for 
         }
     }
 
-    #[tactic(auto, unfolding(crate::specs::Test::tested))]
     fn size(_ctx: T::Ctx, value: &F::Value) -> usize {
         F::size((), value)
     }
 
-    #[tactic(auto, unfolding(crate::specs::Test::tested))]
     fn write(_ctx: T::Ctx, value: &F::Value, room: &mut [u8], writer: &mut Writer) {
         F::write((), value, room, writer)
     }
@@ -71,7 +69,6 @@ impl<I: Input, F: Format<I, Ctx = ()>, T: Test<Value = F::Value>> Format<I> for 
 impl<I: Input, F: Wide<I, Ctx = ()>, T: Test<Value = F::Value>> Wide<I> for Where<F, T> {
     ghost width_of = { F.width_of };
 
-    #[tactic(auto, unfolding(crate::specs::Test::tested))]
     fn width() -> u32 {
         F::width()
     }

@@ -1,4 +1,5 @@
 //! A number of `N` bits.
+#![tactic(auto, unfolding(crate::specs::Word::word))]
 ghost use Rattle.narc_scalar.specs.Word.{word};
 ghost use Rattle.narc_scalar.specs.WordLaws.{word_laws, word_is_wide};
 
@@ -19,7 +20,6 @@ impl<I: Input, const N: u32> Format<I> for Word<N> {
 
     ghost meaning = { word N };
 
-    #[tactic(auto, unfolding(crate::specs::Word::word))]
     fn read<L: Ledger>(_ctx: (), cursor: &mut I, steps: &mut Steps<L>) -> Result<u64, Fault> {
         match cursor.take_bits(N, steps) {
             Ok(number) => Ok(number),
@@ -27,12 +27,10 @@ impl<I: Input, const N: u32> Format<I> for Word<N> {
         }
     }
 
-    #[tactic(auto, unfolding(crate::specs::Word::word))]
     fn size(_ctx: (), _value: &u64) -> usize {
         N as usize
     }
 
-    #[tactic(auto, unfolding(crate::specs::Word::word))]
     fn write(_ctx: (), value: &u64, room: &mut [u8], writer: &mut Writer) {
         writer.put::<N>(room, *value);
     }
