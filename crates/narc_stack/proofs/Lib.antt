@@ -3,3 +3,5 @@ pub mod FrameSound
 pub mod FrameOctets
 pub mod FrameRows
 pub mod FrameAnswers
+pub mod FrameAdmits
+pub mod FrameWritten

@@ -2,3 +2,5 @@ pub mod AnswerView
 pub mod Unbuilt
 pub mod RawFrame
 pub mod WholeFrame
+pub mod Admitted
+pub mod Written

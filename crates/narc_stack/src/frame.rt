@@ -10,6 +10,8 @@ ghost use Rattle.narc_packet.specs.Refusal.{RefusalView, rows_for, refusal};
 ghost use Rattle.narc_eth.specs.FirstFault.{IsFirstFault};
 ghost use Rattle.narc_stack.specs.WholeFrame.{by_type};
 ghost use Rattle.narc_stack.specs.Unbuilt.{unbuilt_at};
+ghost use Rattle.narc_stack.specs.Admitted.{IsAdmitted};
+ghost use Rattle.narc_stack.specs.Written.{written};
 
 use crate::as_packet::{AsPacket, Header};
 use narc_bits::Cursor;
@@ -107,4 +109,14 @@ pub fn octets_are_a_frame_or_refused()
     ensures either { (b : List ℕ) → IsOctets b → length b ≤ 262144 → unbuilt_at b ≡ None → ((p : PacketView) × IsFrame p b) ⊎ ((r : RefusalView) × (refusal b ≡ Some r)) }
     ensures never_both { (b : List ℕ) (p : PacketView) → unbuilt_at b ≡ None → IsFrame p b → refusal b ≡ None }
     ensures one_packet { (b : List ℕ) (p q : PacketView) → unbuilt_at b ≡ None → IsFrame p b → IsFrame q b → p ≡ q }
+{}
+
+/// A packet can be written exactly where its numbers lie in their ranges.
+pub fn frame_admits_its_packets()
+    ensures { (p : Packet) → ⟦<Frame as Tail<Cursor<'static>>>⟧.meaning.admits tt p ↔ IsAdmitted (view p) }
+{}
+
+/// What is written for a packet: its octets, and for ARP octets 0 behind them, up to 60.
+pub fn frame_is_written_with_padding()
+    ensures { (p : Packet) → IsAdmitted (view p) → ⟦<Frame as Tail<Cursor<'static>>>⟧.meaning.spelling tt p ≡ bits (written (view p)) }
 {}
