@@ -1,1 +1,3 @@
 pub mod Sequences
+pub mod Measures
+pub mod Gaps

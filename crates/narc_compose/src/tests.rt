@@ -1,5 +1,6 @@
 //! Each rule at concrete types, through its bound.
 #![tactic(auto, unfolding(crate::specs::Seq::seq, crate::specs::Seq::seq_tail, crate::specs::Named::named, crate::specs::Strip::stripped, crate::specs::Union::united, crate::specs::Whole::at_once, narc_scalar::specs::Word::word, narc_list::specs::Bytes::all_octets, narc_bits::specs::Bits::bits_of_number, narc_bits::specs::Bits::bits))]
+
 ghost use Rattle.std.specs.Prelude.{◌≤◌};
 
 mod calls;
@@ -13,7 +14,7 @@ use narc_format::{Fault, Field};
 use samples::{Datagram, Halves, Kinded, KindedTail, Ports, Spare, SpareTail};
 
 /// A fault of the field with this number.
-fn fault(field: u8, at: u32) -> Fault
+fn fault(field: u8, at: u64) -> Fault
     requires { field ≤ 30 }
 {
     Fault {

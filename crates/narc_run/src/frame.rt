@@ -44,7 +44,7 @@ fn print_refusal<K: Sink>(refusal: &Refusal, page: &mut Page, sink: &mut K) -> R
     page.put(b"refused ");
     page.put(refusal.field.name().as_bytes());
     page.put(b" ");
-    put_decimal(page, u64::from(refusal.at));
+    put_decimal(page, refusal.at);
     page.put(b"\n");
     Ok(())
 }
@@ -90,7 +90,7 @@ fn answer_frame<K: Sink, L: Ledger>(
     ensures cause { OnErr result (Rose (K.faults sink.old) (K.faults sink.new)) }
 {
     if let Some(at) = unbuilt(octets) {
-        return Ok(Outcome::malformed(u64::from(at)));
+        return Ok(Outcome::malformed(at));
     }
     let answer = decode_frame(octets, steps);
     put_answer(&answer, sink)?;

@@ -1,10 +1,11 @@
 //! Bits that are always the same.
 #![tactic(auto, unfolding(crate::specs::Constant::constant))]
+
 ghost use Rattle.narc_scalar.specs.Constant.{constant};
 ghost use Rattle.narc_scalar.specs.ConstantLaws.{constant_laws, constant_is_wide};
 
 use narc_bits::{Input, Steps, Writer};
-use narc_format::{Fault, Format, Wide};
+use narc_format::{Fault, Format, Wide, Width};
 use std::sync::ledger::Ledger;
 
 /// The number `V` in `N` bits, most significant first; `N` is from 1 to 64, and `V` below 2^`N`.
@@ -52,4 +53,12 @@ impl<I: Input, const N: u32, const V: u64> Wide<I> for Const<N, V> {
     }
 
     ghost wide = { constant_is_wide N V };
+}
+
+impl<const N: u32, const V: u64> Width for Const<N, V> {
+    ghost width_of = { N };
+
+    fn width() -> u32 {
+        N
+    }
 }

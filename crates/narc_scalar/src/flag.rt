@@ -1,10 +1,11 @@
 //! One bit.
 #![tactic(auto, unfolding(crate::specs::Flag::flag))]
+
 ghost use Rattle.narc_scalar.specs.Flag.{flag};
 ghost use Rattle.narc_scalar.specs.FlagLaws.{flag_laws, flag_is_wide};
 
 use narc_bits::{Input, Steps, Writer};
-use narc_format::{Fault, Format, Wide};
+use narc_format::{Fault, Format, Wide, Width};
 use std::sync::ledger::Ledger;
 
 /// One bit, which is 1 for `true`.
@@ -46,4 +47,12 @@ impl<I: Input> Wide<I> for Flag {
     }
 
     ghost wide = { flag_is_wide };
+}
+
+impl Width for Flag {
+    ghost width_of = { 1 };
+
+    fn width() -> u32 {
+        1
+    }
 }

@@ -1,11 +1,12 @@
 //! Numbers that have names.
 #![tactic(auto, unfolding(crate::specs::Names::enumerated))]
+
 ghost use Rattle.std.specs.Prelude.{◌≡◌, ℕ, Option};
 ghost use Rattle.narc_scalar.specs.Names.{enumerated, IsExact};
 ghost use Rattle.narc_scalar.specs.NamesLaws.{enumerated_laws, enumerated_is_wide};
 
 use narc_bits::{Input, Steps, Writer};
-use narc_format::{Fault, Format, Wide};
+use narc_format::{Fault, Format, Wide, Width};
 use std::marker::PhantomData;
 use std::sync::ledger::Ledger;
 
@@ -74,4 +75,12 @@ impl<I: Input, F: Wide<I, Ctx = (), Value = u64>, M: Names> Wide<I> for EnumOf<F
     }
 
     ghost wide = { enumerated_is_wide M.number_of F.meaning F.width_of F.wide };
+}
+
+impl<F: Width, M> Width for EnumOf<F, M> {
+    ghost width_of = { F.width_of };
+
+    fn width() -> u32 {
+        F::width()
+    }
 }

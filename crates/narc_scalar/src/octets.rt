@@ -1,12 +1,13 @@
 //! A fixed number of octets.
 #![tactic(auto, unfolding(crate::specs::Octets::fixed_octets))]
+
 ghost use Rattle.std.specs.Prelude.{◌≡◌, ◌+◌, ◌*◌, ◌≤◌, length};
 ghost use Rattle.narc_bits.specs.Bits.{bits, overlay};
 ghost use Rattle.narc_scalar.specs.Octets.{fixed_octets};
 ghost use Rattle.narc_scalar.specs.OctetsLaws.{fixed_octets_laws, fixed_octets_is_wide};
 
 use narc_bits::{Input, MAX_FRAME, Steps, Writer};
-use narc_format::{Fault, Format, Wide};
+use narc_format::{Fault, Format, Wide, Width};
 use std::sync::ledger::Ledger;
 
 /// Six octets.
@@ -108,4 +109,20 @@ impl<I: Input> Wide<I> for Octets4 {
     }
 
     ghost wide = { fixed_octets_is_wide 4 };
+}
+
+impl Width for Octets6 {
+    ghost width_of = { 48 };
+
+    fn width() -> u32 {
+        48
+    }
+}
+
+impl Width for Octets4 {
+    ghost width_of = { 32 };
+
+    fn width() -> u32 {
+        32
+    }
 }

@@ -1,11 +1,12 @@
 //! Formats whose values pass a test.
 #![tactic(auto, unfolding(crate::specs::Test::tested))]
+
 ghost use Rattle.std.specs.Prelude.{◌≡◌, Bool};
 ghost use Rattle.narc_scalar.specs.Test.{tested};
 ghost use Rattle.narc_scalar.specs.TestLaws.{tested_laws, tested_is_wide};
 
 use narc_bits::{Input, Steps, Writer};
-use narc_format::{Fault, Format, Wide};
+use narc_format::{Fault, Format, Wide, Width};
 use std::marker::PhantomData;
 use std::sync::ledger::Ledger;
 
@@ -74,4 +75,12 @@ impl<I: Input, F: Wide<I, Ctx = ()>, T: Test<Value = F::Value>> Wide<I> for Wher
     }
 
     ghost wide = { tested_is_wide T.holds F.meaning F.width_of F.wide };
+}
+
+impl<F: Width, T> Width for Where<F, T> {
+    ghost width_of = { F.width_of };
+
+    fn width() -> u32 {
+        F::width()
+    }
 }

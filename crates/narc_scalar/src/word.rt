@@ -1,10 +1,11 @@
 //! A number of `N` bits.
 #![tactic(auto, unfolding(crate::specs::Word::word))]
+
 ghost use Rattle.narc_scalar.specs.Word.{word};
 ghost use Rattle.narc_scalar.specs.WordLaws.{word_laws, word_is_wide};
 
 use narc_bits::{Input, Steps, Writer};
-use narc_format::{Fault, Format, Wide};
+use narc_format::{Fault, Format, Wide, Width};
 use std::sync::ledger::Ledger;
 
 /// A number of `N` bits, most significant first; `N` is from 1 to 64.
@@ -46,4 +47,12 @@ impl<I: Input, const N: u32> Wide<I> for Word<N> {
     }
 
     ghost wide = { word_is_wide N };
+}
+
+impl<const N: u32> Width for Word<N> {
+    ghost width_of = { N };
+
+    fn width() -> u32 {
+        N
+    }
 }

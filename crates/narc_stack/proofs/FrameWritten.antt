@@ -46,7 +46,7 @@ written_by dst src (eth_body.Arp a) h =
     let whole : header_octets header ++ arp_octets a ≡ front = ap (λ l. l ++ arp_octets a) (sym (append_assoc dst src (big_endian 2 arp_type))) in
     let size : length front ≡ 42 = omega (arith, ap length whole, length-append (header_octets header) (arp_octets a), eth_head_layout.shape.sized header range, arp_layout.shape.sized a h.body) in
     let joined : header_octets header ++ (arp_octets a ++ zeros) ≡ front ++ zeros =
-        sym (append_assoc (header_octets header) (arp_octets a) zeros) ∙ ap (λ l. l ++ zeros) whole in
+    sym (append_assoc (header_octets header) (arp_octets a) zeros) ∙ ap (λ l. l ++ zeros) whole in
     let fill : 18 ≡ 60 - length front = omega (arith, size) in
     ap (λ l. l ++ (arp_format.spelling tt a ++ bits zeros)) (spelling-layout eth_head_layout.shape header range)
     ∙ ap (λ l. bits (header_octets header) ++ (l ++ bits zeros)) (spelling-layout arp_layout.shape a h.body)

@@ -9,7 +9,7 @@ use narc_bits::MAX_FRAME;
 const IPV4: u16 = 0x0800;
 
 /// The place, in octets, of the field that announces data which is not read yet: the Ethernet type of IPv4.
-pub fn unbuilt(bytes: &[u8]) -> Option<u32>
+pub fn unbuilt(bytes: &[u8]) -> Option<u64>
     requires { length bytes.now ≤ MAX_FRAME }
     ensures { result ≡ unbuilt_at bytes.now }
 {

@@ -10,8 +10,7 @@ returns-in-Some-clause-told g c =
     let octets = c.args.octets.now in
     let held = g.K.Sink.held c.args.sink.now in
     let told = IsAnswered-unbuilt octets c.requires c.in-Some.at held (sym c.unbuilt.ensures ∙ c.in-Some.is) in
-    subst (λ outcome. IsAnswered octets outcome.status outcome.at held held) (sym c.malformed.ensures)
-    (subst (λ at. IsAnswered octets 3 at held held) (sym c.from.ensures) told)
+    subst (λ outcome. IsAnswered octets outcome.status outcome.at held held) (sym c.malformed.ensures) told
 
 pub returns-in_err-put_answer-clause-told : goal.returns-in_err-put_answer-clause-told
 returns-in_err-put_answer-clause-told g c =
