@@ -50,7 +50,7 @@ fn print_refusal<K: Sink>(refusal: &Refusal, page: &mut Page, sink: &mut K) -> R
 }
 
 /// The line for a frame.
-fn print_answer<K: Sink>(
+pub(crate) fn print_answer<K: Sink>(
     answer: &Result<Packet<'_>, Refusal>,
     page: &mut Page,
     sink: &mut K,

@@ -1,0 +1,121 @@
+//! A record of a capture: its answer, and its line.
+ghost use Rattle.std.specs.Prelude.{◌≡◌, ◌+◌, ◌*◌, ◌≤◌, ◌++◌, length, OnErr};
+ghost use Rattle.narc_world.specs.Outside.{Rose};
+ghost use Rattle.narc_text.specs.CaptureText.{entry_front, snapped_line};
+ghost use Rattle.narc_text.specs.Printing.{IsPrinted};
+ghost use Rattle.narc_stack.specs.AnswerView.{answer_view};
+ghost use Rattle.narc_stack.specs.Unbuilt.{unbuilt_at};
+ghost use Rattle.narc_run.specs.EntryAnswer.{entry_answer};
+ghost use Rattle.narc_run.specs.Findings.{IsEntryAnswer, IsFrameAnswer, entry_cost};
+ghost use Rattle.narc_run.specs.Output.{show_answer};
+
+use crate::frame::print_answer;
+use narc_bits::Steps;
+use narc_format::{Field, field};
+use narc_packet::Packet;
+use narc_pcap::Record;
+use narc_stack::{Refusal, decode_frame, unbuilt};
+use narc_text::{Page, put_decimal};
+use narc_world::{Failed, Sink};
+use std::sync::ledger::Ledger;
+
+/// The answer for the frame of a record; none where the capture shortened it.
+pub(crate) type Answered<'a> = Option<Result<Packet<'a>, Refusal>>;
+
+/// More octets than a line of numbers has.
+const LINE: usize = 128;
+
+/// The packet of a frame, or its refusal. A frame whose data is not read yet is refused at the field that announces it.
+fn answer_frame<'a, L: Ledger>(
+    octets: &'a [u8],
+    steps: &mut Steps<L>,
+) -> Result<Packet<'a>, Refusal>
+    requires { length octets.now ≤ 262144 }
+    ensures answer { IsFrameAnswer (unbuilt_at octets.now) octets.now (answer_view result) }
+    ensures cost { steps.new ≤ steps.old + (16 * length octets.now + 1) }
+{
+    match unbuilt(octets) {
+        None => decode_frame(octets, steps),
+        Some(at) => Err(Refusal {
+            field: Field::of(field::ETHERNET_TYPE).unwrap(),
+            at,
+        }),
+    }
+}
+
+/// The answer for a record with this frame.
+pub(crate) fn answer_record<'a, L: Ledger>(
+    record: &Record,
+    octets: &'a [u8],
+    steps: &mut Steps<L>,
+) -> Answered<'a>
+    requires { length octets.now ≤ 262144 }
+    ensures answer { IsEntryAnswer (record { head = record.now; octets = octets.now }) (entry_answer result) }
+    ensures cost { steps.new ≤ steps.old + entry_cost (record { head = record.now; octets = octets.now }) }
+{
+    if record.captured < record.original {
+        None
+    } else {
+        Some(answer_frame(octets, steps))
+    }
+}
+
+/// The line of a snapped record, behind its front.
+fn print_snapped<K: Sink>(record: &Record, page: &mut Page, sink: &mut K) -> Result<(), Failed>
+    ensures printed { IsPrinted result (snapped_line record.now.captured record.now.original) page.old page.new (K.held sink.old) (K.held sink.new) }
+    ensures later { K.faults sink.old ≤ K.faults sink.new }
+    ensures cause { OnErr result (Rose (K.faults sink.old) (K.faults sink.new)) }
+{
+    page.make_room(LINE, sink)?;
+    page.put(b"snapped ");
+    put_decimal(page, u64::from(record.captured));
+    page.put(b" ");
+    put_decimal(page, u64::from(record.original));
+    page.put(b"\n");
+    Ok(())
+}
+
+/// The front of a record's line.
+fn put_front(record: &Record, page: &mut Page)
+    requires { length page.old + 128 ≤ 65536 }
+    ensures { page.new ≡ page.old ++ entry_front record.now.sec record.now.sub }
+{
+    page.put(b"rec ");
+    put_decimal(page, u64::from(record.sec));
+    page.put(b" ");
+    put_decimal(page, u64::from(record.sub));
+    page.put(b" ");
+}
+
+/// What a record's line says of its frame.
+fn print_told<K: Sink>(
+    record: &Record,
+    answer: &Answered<'_>,
+    page: &mut Page,
+    sink: &mut K,
+) -> Result<(), Failed>
+    ensures printed { IsPrinted result (show_answer record.now (entry_answer answer.now)) page.old page.new (K.held sink.old) (K.held sink.new) }
+    ensures later { K.faults sink.old ≤ K.faults sink.new }
+    ensures cause { OnErr result (Rose (K.faults sink.old) (K.faults sink.new)) }
+{
+    match answer {
+        None => print_snapped(record, page, sink),
+        Some(answer) => print_answer(answer, page, sink),
+    }
+}
+
+/// A record's line.
+pub(crate) fn print_record<K: Sink>(
+    record: &Record,
+    answer: &Answered<'_>,
+    page: &mut Page,
+    sink: &mut K,
+) -> Result<(), Failed>
+    ensures printed { IsPrinted result (entry_front record.now.sec record.now.sub ++ show_answer record.now (entry_answer answer.now)) page.old page.new (K.held sink.old) (K.held sink.new) }
+    ensures later { K.faults sink.old ≤ K.faults sink.new }
+    ensures cause { OnErr result (Rose (K.faults sink.old) (K.faults sink.new)) }
+{
+    page.make_room(LINE, sink)?;
+    put_front(record, page);
+    print_told(record, answer, page, sink)
+}
