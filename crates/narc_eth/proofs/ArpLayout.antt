@@ -8,13 +8,13 @@ use Rattle.narc_compose.specs.Named.{named}
 use Rattle.narc_packet.specs.declared.packet.Arp.{Arp}
 use Rattle.narc_packet.specs.Frame.{arp_octets, ipv4_type}
 use Rattle.narc_packet.specs.Ranges.{IsMac, IsIp, IsArpInRange}
-use Rattle.narc_packet.specs.Refusal.{Row, row, differs}
-use Rattle.narc_eth.specs.Both.{both}
+use Rattle.narc_format.specs.Rows.{Row, row, differs}
+use Rattle.narc_compose.specs.Both.{both}
 use Rattle.narc_eth.specs.ArpPacket.{RawArp, arp_of, raw_arp, arp_kind, arp_addresses, arp_format}
-use Rattle.narc_eth.proofs.Layouts.{IsLayout}
-use Rattle.narc_eth.proofs.BothLayout.{both_layout}
-use Rattle.narc_eth.proofs.ScalarLayouts.{octets_layout, word_layout, constant_layout}
-use Rattle.narc_eth.proofs.Views.{seen_layout}
+use Rattle.narc_layout.proofs.Layouts.{IsLayout}
+use Rattle.narc_layout.proofs.BothLayout.{both_layout}
+use Rattle.narc_layout.proofs.ScalarLayouts.{octets_layout, word_layout, constant_layout}
+use Rattle.narc_layout.proofs.Views.{seen_layout}
 
 abbrev pub kind_rows : (start skip : ℕ) → List ℕ → List Row
 kind_rows start skip x =

@@ -1,12 +1,12 @@
 -- The layout of the header of an Ethernet frame.
 use Rattle.std.proofs.Common.{ℕ, ◌+◌, List, [], ◌∷◌, lit≤}
 use Rattle.narc_bits.specs.Octets.{is_shorter}
-use Rattle.narc_packet.specs.Refusal.{Row, row}
+use Rattle.narc_format.specs.Rows.{Row, row}
 use Rattle.narc_format.specs.declared.field.TheConstants as field
 use Rattle.narc_eth.specs.EthernetHeader.{eth_head, IsHeaderInRange, header_octets}
-use Rattle.narc_eth.proofs.Layouts.{IsLayout}
-use Rattle.narc_eth.proofs.BothLayout.{both_layout}
-use Rattle.narc_eth.proofs.ScalarLayouts.{octets_layout, word_layout}
+use Rattle.narc_layout.proofs.Layouts.{IsLayout}
+use Rattle.narc_layout.proofs.BothLayout.{both_layout}
+use Rattle.narc_layout.proofs.ScalarLayouts.{octets_layout, word_layout}
 
 -- the rows of the header, behind `skip` octets of x
 abbrev pub header_rows : (start skip : ℕ) → List ℕ → List Row

@@ -1,10 +1,2 @@
-pub mod NetworkOrder
-pub mod Rows
-pub mod Layouts
-pub mod BothLayout
-pub mod NamedLayout
-pub mod Fronts
-pub mod ScalarLayouts
-pub mod Views
 pub mod HeaderLayout
 pub mod ArpLayout

@@ -9,7 +9,7 @@ use Rattle.narc_compose.specs.Named.{named}
 use Rattle.narc_compose.specs.Strip.{stripped}
 use Rattle.narc_packet.specs.declared.packet.Arp.{Arp}
 use Rattle.narc_packet.specs.Frame.{ipv4_type}
-use Rattle.narc_eth.specs.Both.{both}
+use Rattle.narc_compose.specs.Both.{both}
 
 -- nothing of the constants, the operation, and a hardware and a protocol address of sender and target
 abbrev pub RawArp : Type 0

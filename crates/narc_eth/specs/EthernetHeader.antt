@@ -7,7 +7,7 @@ use Rattle.narc_scalar.specs.Octets.{fixed_octets}
 use Rattle.narc_scalar.specs.Word.{word}
 use Rattle.narc_compose.specs.Named.{named}
 use Rattle.narc_packet.specs.Ranges.{IsMac}
-use Rattle.narc_eth.specs.Both.{both}
+use Rattle.narc_compose.specs.Both.{both}
 
 -- destination, source and type
 abbrev pub Header : Type 0

@@ -1,4 +1,2 @@
-pub mod FirstFault
-pub mod Both
 pub mod EthernetHeader
 pub mod ArpPacket

@@ -7,12 +7,11 @@ ghost use Rattle.narc_packet.specs.declared.packet.Arp.{Arp};
 ghost use Rattle.narc_packet.specs.Ranges.{IsArpInRange};
 ghost use Rattle.narc_packet.specs.Frame.{arp_octets};
 ghost use Rattle.narc_packet.specs.Refusal.{arp_rows};
-ghost use Rattle.narc_eth.specs.FirstFault.{IsFirstFault};
+ghost use Rattle.narc_layout.specs.FirstFault.{IsFirstFault};
 ghost use Rattle.narc_eth.specs.ArpPacket.{RawArp, arp_of, raw_arp};
 
-use crate::no_context::Then;
 use narc_bits::Cursor;
-use narc_compose::{Choose, Named, Strip};
+use narc_compose::{Choose, Named, Strip, Then};
 use narc_format::{Format, field};
 use narc_packet::Arp;
 use narc_scalar::{Const, Octets4, Octets6, Word};

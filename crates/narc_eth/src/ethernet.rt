@@ -4,12 +4,11 @@ ghost use Rattle.narc_bits.specs.Octets.{IsOctets};
 ghost use Rattle.narc_bits.specs.Bits.{bits};
 ghost use Rattle.narc_format.specs.declared.fault.Fault.{Fault};
 ghost use Rattle.narc_packet.specs.Refusal.{ethernet_rows};
-ghost use Rattle.narc_eth.specs.FirstFault.{IsFirstFault};
+ghost use Rattle.narc_layout.specs.FirstFault.{IsFirstFault};
 ghost use Rattle.narc_eth.specs.EthernetHeader.{Header, IsHeaderInRange, header_octets};
 
-use crate::no_context::Then;
 use narc_bits::Cursor;
-use narc_compose::Named;
+use narc_compose::{Named, Then};
 use narc_format::{Format, field};
 use narc_scalar::{Octets6, Word};
 

@@ -3,7 +3,6 @@
 
 mod arp;
 mod ethernet;
-mod no_context;
 #[cfg(test)]
 mod tests;
 
@@ -13,4 +12,3 @@ pub use arp::{
 pub use ethernet::{
     EthHead, eth_head_is_its_octets, eth_head_is_refused_by_row, eth_head_is_sound,
 };
-pub use no_context::NoContext;

@@ -1,9 +1,9 @@
 //! The formats of Ethernet, written out and read.
 ghost use Rattle.std.specs.Prelude.{◌≡◌, ◌*◌, ◌≤◌, length};
 
-use crate::{ArpFormat, AsArp, EthHead, NoContext};
+use crate::{ArpFormat, AsArp, EthHead};
 use narc_bits::{Cursor, Input, Steps, Writer};
-use narc_compose::{Named, Seq, Strip};
+use narc_compose::{Named, NoContext, Seq, Strip};
 use narc_format::{Fault, Format};
 use narc_packet::Arp;
 use narc_scalar::{Const, Octets4, Octets6, Word};

@@ -6,3 +6,4 @@ pub mod Laws
 pub mod Widths
 pub mod Holes
 pub mod Exactness
+pub mod Rows

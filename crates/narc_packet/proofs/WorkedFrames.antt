@@ -6,7 +6,8 @@ use Rattle.std.proofs.lemmas.Bool.{ltb-true, and_parts}
 use Rattle.narc_bits.specs.Octets.{IsOctets}
 use Rattle.narc_packet.specs.PacketView.{PacketView, ArpBody, OtherBody}
 use Rattle.narc_packet.specs.Frame.{IsFrame}
-use Rattle.narc_packet.specs.Refusal.{RefusalView, refusal}
+use Rattle.narc_format.specs.Rows.{RefusalView}
+use Rattle.narc_packet.specs.Refusal.{refusal}
 
 abbrev pub hex_value : ℕ → ℕ
 hex_value c = if nat_lt c 58 then c - 48 else c - 87

@@ -2,24 +2,8 @@
 use Rattle.std.specs.Prelude.{ℕ, Bool, not, ◌||◌, List, [], ◌∷◌, ◌++◌, drop, nat_eq, Option, Some, None, if◌then◌else◌}
 use Rattle.narc_bits.specs.Octets.{is_shorter, number_at}
 use Rattle.narc_format.specs.declared.field.TheConstants as field
+use Rattle.narc_format.specs.Rows.{RefusalView, Row, row, first_failing, differs}
 use Rattle.narc_packet.specs.Frame.{arp_type, ipv4_type}
-
--- a field by its number, and the place of an octet of the frame
-pub record RefusalView : Type 0 where
-  pub field : ℕ
-  pub at : ℕ
-
--- a row of the table: it refuses the frame where it fails
-pub record Row : Type 0 where
-  pub refusal : RefusalView
-  pub fails : Bool
-
-abbrev pub row : (field at : ℕ) → Bool → Row
-row field at fails = record { refusal = record { field = field; at = at }; fails = fails }
-
-abbrev pub first_failing : List Row → Option RefusalView
-first_failing [] = None
-first_failing (r ∷ rows) = let later = first_failing rows in if r.fails then Some r.refusal else later
 
 -- the header of a frame (RFC 894)
 abbrev pub ethernet_rows : (frame : List ℕ) → List Row
@@ -28,10 +12,6 @@ ethernet_rows frame =
     ∷ row field.ETHERNET_SOURCE 6 (is_shorter frame 12)
     ∷ row field.ETHERNET_TYPE 12 (is_shorter frame 14)
     ∷ []
-
--- is not this number
-abbrev pub differs : ℕ → ℕ → Bool
-differs n m = not (nat_eq n m)
 
 -- ARP (RFC 826): x is what follows the Ethernet header
 abbrev pub arp_rows : (x : List ℕ) → List Row

@@ -16,8 +16,8 @@ use Rattle.narc_packet.specs.declared.packet.Arp.{Arp}
 use Rattle.narc_packet.specs.Frame.{arp_type, arp_octets}
 use Rattle.narc_packet.specs.Ranges.{IsArpInRange}
 use Rattle.narc_packet.specs.Refusal.{arp_rows}
-use Rattle.narc_eth.specs.FirstFault.{IsFirstFault}
-use Rattle.narc_eth.proofs.Layouts.{front_octets}
+use Rattle.narc_layout.specs.FirstFault.{IsFirstFault}
+use Rattle.narc_layout.proofs.Layouts.{front_octets}
 use Rattle.narc_eth.proofs.ArpLayout.{arp_layout}
 use Rattle.narc_stack.specs.RawFrame.{RawBody}
 use Rattle.narc_stack.specs.WholeFrame.{padded_arp, by_type, frame_body}

@@ -18,8 +18,9 @@ use Rattle.narc_packet.specs.declared.packet.EthBody.TheVariants as eth_body
 use Rattle.narc_packet.specs.declared.packet.Packet.{Packet}
 use Rattle.narc_packet.specs.Frame.{IsFrame}
 use Rattle.narc_packet.specs.PacketView.{PacketView, EthBodyView, ArpBody, OtherBody, eth_body_view, view}
-use Rattle.narc_packet.specs.Refusal.{RefusalView, refusal}
-use Rattle.narc_eth.proofs.Rows.{told}
+use Rattle.narc_format.specs.Rows.{RefusalView}
+use Rattle.narc_packet.specs.Refusal.{refusal}
+use Rattle.narc_layout.proofs.Rows.{told}
 use Rattle.narc_eth.proofs.HeaderLayout.{eth_head_layout}
 use Rattle.narc_eth.proofs.ArpLayout.{arp_layout}
 use Rattle.narc_stack.specs.Unbuilt.{unbuilt_at}

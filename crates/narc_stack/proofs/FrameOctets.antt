@@ -17,9 +17,9 @@ use Rattle.narc_packet.specs.declared.packet.Packet.{Packet}
 use Rattle.narc_packet.specs.Frame.{IsFrame, IsEthBody, ether_type_of, arp_type, ipv4_type}
 use Rattle.narc_packet.specs.PacketView.{eth_body_view, view}
 use Rattle.narc_eth.specs.EthernetHeader.{Header, IsHeaderInRange, header_octets}
-use Rattle.narc_eth.proofs.Layouts.{front_octets}
+use Rattle.narc_layout.proofs.Layouts.{front_octets}
 use Rattle.narc_eth.proofs.HeaderLayout.{eth_head_layout}
-use Rattle.narc_eth.proofs.NetworkOrder.{number_of-big_endian}
+use Rattle.narc_layout.proofs.NetworkOrder.{number_of-big_endian}
 use Rattle.narc_stack.specs.RawFrame.{RawBody, RawFrame, body_of, type_of, raw_body, packet_of, raw_frame}
 use Rattle.narc_stack.specs.WholeFrame.{frame_body, header_and_body, whole_frame}
 use Rattle.narc_stack.specs.Unbuilt.{unbuilt_at}

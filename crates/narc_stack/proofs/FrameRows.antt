@@ -11,11 +11,12 @@ use Rattle.narc_format.specs.declared.fault.Fault.{Fault}
 use Rattle.narc_compose.specs.Seq.{seq_tail, LaterRefused}
 use Rattle.narc_compose.specs.Strip.{stripped}
 use Rattle.narc_packet.specs.Frame.{arp_type}
-use Rattle.narc_packet.specs.Refusal.{Row, RefusalView, first_failing, ethernet_rows, arp_rows, rows_for}
+use Rattle.narc_format.specs.Rows.{Row, RefusalView, first_failing}
+use Rattle.narc_packet.specs.Refusal.{ethernet_rows, arp_rows, rows_for}
 use Rattle.narc_eth.specs.EthernetHeader.{Header, IsHeaderInRange, header_octets, eth_head}
-use Rattle.narc_eth.specs.FirstFault.{IsFirstFault}
-use Rattle.narc_eth.proofs.Rows.{Fails, told, judged, first_failing-front, first_failing-back}
-use Rattle.narc_eth.proofs.Layouts.{front_octets}
+use Rattle.narc_layout.specs.FirstFault.{IsFirstFault}
+use Rattle.narc_layout.proofs.Rows.{Fails, told, judged, first_failing-front, first_failing-back}
+use Rattle.narc_layout.proofs.Layouts.{front_octets}
 use Rattle.narc_eth.proofs.HeaderLayout.{eth_head_layout}
 use Rattle.narc_eth.proofs.ArpLayout.{arp_layout}
 use Rattle.narc_stack.specs.WholeFrame.{frame_body, whole_frame}

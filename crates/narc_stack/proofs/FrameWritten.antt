@@ -19,7 +19,7 @@ use Rattle.narc_packet.specs.Frame.{arp_type, arp_octets}
 use Rattle.narc_packet.specs.PacketView.{view}
 use Rattle.narc_eth.specs.ArpPacket.{arp_format}
 use Rattle.narc_eth.specs.EthernetHeader.{Header, IsHeaderInRange, header_octets}
-use Rattle.narc_eth.proofs.Layouts.{spelling-layout}
+use Rattle.narc_layout.proofs.Layouts.{spelling-layout}
 use Rattle.narc_eth.proofs.HeaderLayout.{eth_head_layout}
 use Rattle.narc_eth.proofs.ArpLayout.{arp_layout}
 use Rattle.narc_stack.specs.RawFrame.{RawBody, raw_frame}

@@ -4,7 +4,7 @@ use Rattle.narc_bits.proofs.Numbers.{length-bits}
 use Rattle.narc_packet.specs.declared.packet.Arp.{Arp}
 use Rattle.narc_packet.specs.Frame.{arp_octets}
 use Rattle.narc_packet.specs.Ranges.{IsArpInRange}
-use Rattle.narc_eth.proofs.Layouts.{spelling-layout}
+use Rattle.narc_layout.proofs.Layouts.{spelling-layout}
 use Rattle.narc_eth.proofs.ArpLayout.{arp_layout}
 use Rattle.narc_eth.proofs.tests.an_arp_packet_is_read_and_written.Goals as goal
 

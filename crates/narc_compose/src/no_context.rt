@@ -1,5 +1,5 @@
 //! Parts that need no context.
-use narc_compose::{Carry, Seq};
+use crate::seq::{Carry, Seq};
 
 /// No context is carried.
 pub struct NoContext;
@@ -19,4 +19,4 @@ impl<V> Carry<V, (), ()> for NoContext {
 }
 
 /// A, then B, each without a context.
-pub(crate) type Then<A, B> = Seq<A, B, NoContext>;
+pub type Then<A, B> = Seq<A, B, NoContext>;

@@ -5,8 +5,8 @@ use Rattle.narc_bits.specs.Bits.{bits}
 use Rattle.narc_format.specs.Meaning.{Meaning}
 use Rattle.narc_compose.specs.Strip.{stripped}
 use Rattle.narc_compose.specs.StripLaws.{stripped_laws}
-use Rattle.narc_packet.specs.Refusal.{Row}
-use Rattle.narc_eth.proofs.Layouts.{IsShaped, IsJudged, IsLayout, Begins}
+use Rattle.narc_format.specs.Rows.{Row}
+use Rattle.narc_layout.proofs.Layouts.{IsShaped, IsJudged, IsLayout, Begins}
 
 module _ {V W : Type 0} {F : Meaning (Unit {0}) W} {InRaw : W → Type 0} {raw_octets : W → List ℕ} {size : ℕ} {rows : (start skip : ℕ) → List ℕ → List Row} (L : IsLayout F InRaw raw_octets size rows)
     (see : W → V) (choose : V → W) (InRange : V → Type 0) (octets_of : V → List ℕ)

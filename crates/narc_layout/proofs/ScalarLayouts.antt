@@ -15,11 +15,11 @@ use Rattle.narc_scalar.specs.OctetsLaws.{fixed_octets_laws}
 use Rattle.narc_scalar.specs.Constant.{constant}
 use Rattle.narc_scalar.specs.ConstantLaws.{constant_laws}
 use Rattle.narc_compose.specs.Named.{named}
-use Rattle.narc_packet.specs.Refusal.{row, differs}
-use Rattle.narc_eth.proofs.NetworkOrder.{number_of-big_endian}
-use Rattle.narc_eth.proofs.Layouts.{IsShaped, IsLayout}
-use Rattle.narc_eth.proofs.NamedLayout.{IsUnnamed, named_layout}
-use Rattle.narc_eth.proofs.Fronts.{few, enough, long, cut, is_number, below}
+use Rattle.narc_format.specs.Rows.{row, differs}
+use Rattle.narc_layout.proofs.NetworkOrder.{number_of-big_endian}
+use Rattle.narc_layout.proofs.Layouts.{IsShaped, IsLayout}
+use Rattle.narc_layout.proofs.NamedLayout.{IsUnnamed, named_layout}
+use Rattle.narc_layout.proofs.Fronts.{few, enough, long, cut, is_number, below}
 
 -- a number of k octets
 module _ (k : ℕ) (some : 1 ≤ k) (most : k ≤ 8) where

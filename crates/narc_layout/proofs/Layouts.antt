@@ -9,8 +9,8 @@ use Rattle.narc_bits.proofs.Spelled.{bits_same}
 use Rattle.narc_format.specs.declared.fault.Fault.{Fault}
 use Rattle.narc_format.specs.Meaning.{Meaning}
 use Rattle.narc_format.specs.Laws.{Laws}
-use Rattle.narc_packet.specs.Refusal.{Row, RefusalView, first_failing}
-use Rattle.narc_eth.specs.FirstFault.{IsFirstFault}
+use Rattle.narc_format.specs.Rows.{Row, RefusalView, first_failing}
+use Rattle.narc_layout.specs.FirstFault.{IsFirstFault}
 
 -- the octets begin with those of some value
 pub record Begins {V : Type 0} (InRange : V → Type 0) (octets_of : V → List ℕ) (x : List ℕ) : Type 0 where

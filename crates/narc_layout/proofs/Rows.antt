@@ -3,8 +3,8 @@ use Rattle.std.proofs.Common.{◌≡◌, ℕ, ◌+◌, ◌⊎◌, ◌↔◌, Boo
 use Rattle.std.specs.Prelude.{if◌then◌else◌}
 use Rattle.narc_format.specs.Faults.{fault_at}
 use Rattle.narc_format.specs.declared.fault.Fault.{Fault}
-use Rattle.narc_packet.specs.Refusal.{Row, RefusalView, row, first_failing}
-use Rattle.narc_eth.specs.FirstFault.{IsFirstFault}
+use Rattle.narc_format.specs.Rows.{Row, RefusalView, row, first_failing}
+use Rattle.narc_layout.specs.FirstFault.{IsFirstFault}
 
 pub record Fails (rows : List Row) : Type 0 where
   pub refusal : RefusalView

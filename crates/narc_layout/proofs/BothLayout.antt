@@ -10,11 +10,11 @@ use Rattle.narc_format.specs.declared.fault.Fault.{Fault}
 use Rattle.narc_format.specs.Meaning.{Meaning}
 use Rattle.narc_compose.specs.Seq.{seq, LaterRefused}
 use Rattle.narc_compose.specs.SeqLaws.{seq_laws}
-use Rattle.narc_packet.specs.Refusal.{Row, RefusalView, first_failing}
-use Rattle.narc_eth.specs.FirstFault.{IsFirstFault}
-use Rattle.narc_eth.specs.Both.{both}
-use Rattle.narc_eth.proofs.Rows.{Fails, told, judged, first_failing-front, first_failing-back, first_failing-none}
-use Rattle.narc_eth.proofs.Layouts.{IsShaped, IsLayout, Begins, front_octets}
+use Rattle.narc_format.specs.Rows.{Row, RefusalView, first_failing}
+use Rattle.narc_layout.specs.FirstFault.{IsFirstFault}
+use Rattle.narc_compose.specs.Both.{both}
+use Rattle.narc_layout.proofs.Rows.{Fails, told, judged, first_failing-front, first_failing-back, first_failing-none}
+use Rattle.narc_layout.proofs.Layouts.{IsShaped, IsLayout, Begins, front_octets}
 
 module _ {V W : Type 0} {A : Meaning (Unit {0}) V} {B : Meaning (Unit {0}) W} {InA : V → Type 0} {InB : W → Type 0} {octets_a : V → List ℕ} {octets_b : W → List ℕ} {m n : ℕ}
     {rows_a rows_b : (start skip : ℕ) → List ℕ → List Row} (LA : IsLayout A InA octets_a m rows_a) (LB : IsLayout B InB octets_b n rows_b) where

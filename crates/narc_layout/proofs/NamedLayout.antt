@@ -7,10 +7,10 @@ use Rattle.narc_format.specs.declared.fault.Fault.{Fault}
 use Rattle.narc_format.specs.Meaning.{Meaning}
 use Rattle.narc_compose.specs.Named.{named}
 use Rattle.narc_compose.specs.NamedLaws.{named_laws}
-use Rattle.narc_packet.specs.Refusal.{Row, RefusalView, row, first_failing}
-use Rattle.narc_eth.specs.FirstFault.{IsFirstFault}
-use Rattle.narc_eth.proofs.Rows.{one_row, one_row_none}
-use Rattle.narc_eth.proofs.Layouts.{IsShaped, IsLayout, Begins}
+use Rattle.narc_format.specs.Rows.{Row, RefusalView, row, first_failing}
+use Rattle.narc_layout.specs.FirstFault.{IsFirstFault}
+use Rattle.narc_layout.proofs.Rows.{one_row, one_row_none}
+use Rattle.narc_layout.proofs.Layouts.{IsShaped, IsLayout, Begins}
 
 -- it is refused, without a name, exactly where a test of what is behind `skip` octets of x fails
 pub record IsUnnamed {V : Type 0} (m : Meaning (Unit {0}) V) (InRange : V → Type 0) (octets_of : V → List ℕ) (fails : (skip : ℕ) → List ℕ → Bool) : Type 0 where
