@@ -1,5 +1,9 @@
+pub mod Options
 pub mod PacketView
 pub mod Ranges
+pub mod Udp
+pub mod Tcp
+pub mod Ipv4
 pub mod Frame
 pub mod Refusal
 pub mod Answer

@@ -1,6 +1,8 @@
 //! Packets, and what octets are a frame of one.
 #![tactic(auto)]
 
+mod options;
 mod packet;
 
-pub use packet::{Arp, EthBody, Packet};
+pub use options::{IpOption, IpOptions, TcpOption, TcpOptions};
+pub use packet::{Arp, EthBody, IpBody, Ipv4, Packet, Tcp, Udp};

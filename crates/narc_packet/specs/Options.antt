@@ -1,0 +1,136 @@
+-- The options of IPv4 (RFC 791, section 3.1) and of TCP (RFC 793, section 3.1), and the areas that hold them.
+use Rattle.std.specs.Prelude.{◌≡◌, ℕ, zero, suc, ◌+◌, ◌-◌, ◌*◌, ◌%◌, ◌<◌, ◌≤◌, ◌≢◌, ◌^◌, Bool, true, false, ◌||◌, List, [], ◌∷◌, ◌++◌, length, map, take, flat_map, replicate, nat_lt, Option, Some, None, if◌then◌else◌}
+use Rattle.std.specs.List.{AllByRecursion}
+use Rattle.narc_bits.specs.Octets.{IsOctets, big_endian}
+
+-- an option of an IPv4 header, without where its data lies
+pub data IpOptionView : Type 0 where
+  IpNop : IpOptionView
+  IpOther : (kind : ℕ) → (data_octets : List ℕ) → IpOptionView
+
+-- an option of a TCP header
+pub data TcpOptionView : Type 0 where
+  TcpNop : TcpOptionView
+  TcpMss : (size : ℕ) → TcpOptionView
+  TcpOther : (kind : ℕ) → (data_octets : List ℕ) → TcpOptionView
+
+-- any other option: kind, the length of the whole, and the data
+abbrev pub other_option : (kind : ℕ) → List ℕ → List ℕ
+other_option kind octets = kind ∷ (2 + length octets) ∷ octets
+
+abbrev pub ip_option : IpOptionView → List ℕ
+ip_option IpNop = 1 ∷ []
+ip_option (IpOther kind octets) = other_option kind octets
+
+abbrev pub tcp_option : TcpOptionView → List ℕ
+tcp_option TcpNop = 1 ∷ []
+tcp_option (TcpMss size) = 2 ∷ 4 ∷ big_endian 2 size
+tcp_option (TcpOther kind octets) = other_option kind octets
+
+-- an option that has a spelling
+pub record IsOtherOption (kind : ℕ) (octets : List ℕ) : Type 0 where
+  pub least : 2 ≤ kind
+  pub kind_range : kind < 256
+  pub bound : length octets ≤ 38
+  pub each : IsOctets octets
+
+abbrev pub IsIpOption : IpOptionView → Type 0
+IsIpOption IpNop = Unit {0}
+IsIpOption (IpOther kind octets) = IsOtherOption kind octets
+
+-- kind 2 with two octets is the maximum segment size
+abbrev pub IsTcpOption : TcpOptionView → Type 0
+IsTcpOption TcpNop = Unit {0}
+IsTcpOption (TcpMss size) = size < 2 ^ 16
+IsTcpOption (TcpOther kind octets) = IsOtherOption kind octets × (kind ≡ 2 → length octets ≢ 2)
+
+-- nothing, or an end of the option list and any octets after it
+abbrev pub IsListEnd : List ℕ → Type 0
+IsListEnd [] = Unit {0}
+IsListEnd (octet ∷ l) = octet ≡ 0
+
+-- The area has these options in order, and then the end of the list.
+pub record IsArea {O : Type 0} (spelling : O → List ℕ) (IsOption : O → Type 0) (options : List O) (area : List ℕ) : Type 0 where
+  pub rest : List ℕ
+  pub layout : area ≡ flat_map spelling options ++ rest
+  pub ended : IsListEnd rest
+  pub each : AllByRecursion IsOption options
+  pub octets : IsOctets area
+  pub whole_words : length area % 4 ≡ 0
+  pub bound : length area ≤ 40
+
+abbrev pub IsIpArea : List IpOptionView → List ℕ → Type 0
+IsIpArea options area = IsArea ip_option IsIpOption options area
+
+abbrev pub IsTcpArea : List TcpOptionView → List ℕ → Type 0
+IsTcpArea options area = IsArea tcp_option IsTcpOption options area
+
+-- the spellings and the fewest octets 0 that fill a 32-bit word
+abbrev pub filled : List ℕ → List ℕ
+filled spellings = spellings ++ replicate ((4 - length spellings % 4) % 4) 0
+
+-- the shortest areas
+abbrev pub ip_area : List IpOptionView → List ℕ
+ip_area options = filled (flat_map ip_option options)
+
+abbrev pub tcp_area : List TcpOptionView → List ℕ
+tcp_area options = filled (flat_map tcp_option options)
+
+-- A list that stands in an option's place is no option: a kind above 1 with no length, or with a length
+-- below 2 or past the list.
+abbrev pub is_bad_option : List ℕ → Bool
+is_bad_option [] = false
+is_bad_option (zero ∷ l) = false
+is_bad_option (suc zero ∷ l) = false
+is_bad_option (suc (suc kind) ∷ []) = true
+is_bad_option (suc (suc kind) ∷ len ∷ l) = nat_lt len 2 || nat_lt (2 + length l) len
+
+-- the octets of the option in front that come after its first
+abbrev pub option_rest : List ℕ → ℕ
+option_rest (suc (suc kind) ∷ len ∷ l) = len - 1
+option_rest l = 0
+
+-- the place of the first bad option in the area: behind skip octets of an option the next one begins
+abbrev pub bad_option_from : (skip place : ℕ) → List ℕ → Option ℕ
+bad_option_from skip place [] = None
+bad_option_from (suc skip) place (octet ∷ l) = bad_option_from skip (place + 1) l
+bad_option_from zero place (zero ∷ l) = None
+bad_option_from zero place (suc octet ∷ l) =
+    let next = bad_option_from (option_rest (suc octet ∷ l)) (place + 1) l in
+    if is_bad_option (suc octet ∷ l) then Some place else next
+
+abbrev pub bad_option : List ℕ → Option ℕ
+bad_option area = bad_option_from 0 0 area
+
+-- the option in front, where it is none that is bad and no end
+abbrev pub first_option : List ℕ → IpOptionView
+first_option (suc (suc kind) ∷ len ∷ l) = IpOther (suc (suc kind)) (take (len - 2) l)
+first_option l = IpNop
+
+-- the options in order, up to an end, or to what is no option
+abbrev pub options_from : (skip : ℕ) → List ℕ → List IpOptionView
+options_from skip [] = []
+options_from (suc skip) (octet ∷ l) = options_from skip l
+options_from zero (zero ∷ l) = []
+options_from zero (suc octet ∷ l) =
+    let next = options_from (option_rest (suc octet ∷ l)) l in
+    if is_bad_option (suc octet ∷ l) then [] else first_option (suc octet ∷ l) ∷ next
+
+abbrev pub ip_options_in : List ℕ → List IpOptionView
+ip_options_in spelled = options_from 0 spelled
+
+-- kind 2 with two octets of data is the maximum segment size
+abbrev pub tcp_option_of : IpOptionView → TcpOptionView
+tcp_option_of IpNop = TcpNop
+tcp_option_of (IpOther (suc (suc zero)) (high ∷ low ∷ [])) = TcpMss (256 * high + low)
+tcp_option_of (IpOther kind octets) = TcpOther kind octets
+
+abbrev pub tcp_options_in : List ℕ → List TcpOptionView
+tcp_options_in spelled = map tcp_option_of (options_from 0 spelled)
+
+-- the octets are the spellings of the options in them, and nothing else
+abbrev pub AreIpOptions : List ℕ → Type 0
+AreIpOptions spelled = (flat_map ip_option (ip_options_in spelled) ≡ spelled) × AllByRecursion IsIpOption (ip_options_in spelled)
+
+abbrev pub AreTcpOptions : List ℕ → Type 0
+AreTcpOptions spelled = (flat_map tcp_option (tcp_options_in spelled) ≡ spelled) × AllByRecursion IsTcpOption (tcp_options_in spelled)
