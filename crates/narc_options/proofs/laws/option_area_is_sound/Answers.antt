@@ -1,0 +1,5 @@
+use Rattle.narc_options.proofs.OptionSound.{area_sound}
+use Rattle.narc_options.proofs.laws.option_area_is_sound.Goals as goal
+
+pub returns : goal.returns
+returns c = area_sound

@@ -1,0 +1,13 @@
+//! Options of IPv4 and TCP headers, and the areas that hold them.
+#![tactic(auto)]
+
+mod area;
+mod laws;
+mod option;
+
+pub use area::OptionArea;
+pub use laws::{option_area_is_sound, option_fields_are_sound};
+pub use option::{
+    AnyOctets, ByKind, ContextOctets, Data, DataOf, IsKind, IsOptionLength, Kind, KindOf, Length,
+    Nothing, OptionFields, RawOption,
+};
