@@ -1,1 +1,2 @@
 pub mod OptionSound
+pub mod AreaSound

@@ -15,9 +15,9 @@ use Rattle.narc_compose.specs.Union.{united, Side}
 use Rattle.narc_list.specs.Bytes.{all_octets}
 use Rattle.narc_list.specs.Pad.{padding}
 use Rattle.narc_list.specs.Region.{region}
-use Rattle.narc_list.specs.Until.{until, StartsZero, StartsOther}
+use Rattle.narc_list.specs.Until.{StartsZero, StartsOther}
 use Rattle.narc_list.specs.UntilLaws.{zero_spelled}
-use Rattle.narc_options.specs.Option.{is_kind, is_option_length, RawOption, option_kind, option_length, option_data, nothing, length_and_data, behind_kind, option_fields, option_area}
+use Rattle.narc_options.specs.Option.{is_kind, is_option_length, RawOption, option_kind, option_length, option_data, nothing, length_and_data, behind_kind, option_fields}
 use Rattle.narc_options.specs.Laws.{option_fields_laws}
 
 pub kind_some : (n : ℕ) → IsTrue (is_kind tt n) → n ≡ 0 → ⊥
@@ -101,7 +101,3 @@ option_begins v b p =
       some = omega (arith, ap length p.joined, length-append p.front p.back, ap length kind.0.1, length-bits_of_number 8 v.0);
       other = other_start v.0 p.front p.back b p.joined kind.0.0 kind.0.1 kind.1;
     }
-
-pub area_sound : option_area.sound
-unfolding until
-area_sound = record { item_sound = option_sound; item_valid = option_valid; begins = option_begins }

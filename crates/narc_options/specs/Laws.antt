@@ -13,7 +13,7 @@ use Rattle.narc_list.specs.Pad.{padding}
 use Rattle.narc_list.specs.PadLaws.{padding_laws}
 use Rattle.narc_list.specs.RegionLaws.{region_laws}
 use Rattle.narc_list.specs.UntilLaws.{until_laws}
-use Rattle.narc_options.specs.Option.{is_kind, is_option_length, by_kind, option_kind, option_length, any_octets, option_data, nothing, length_and_data, behind_kind, option_fields, option_area}
+use Rattle.narc_options.specs.Option.{is_kind, is_option_length, by_kind, option_kind, option_length, any_octets, option_data, nothing, length_and_data, behind_kind, option_fields, option_area, option_region}
 
 option_kind_laws : Laws option_kind
 option_kind_laws = tested_laws is_kind (word 8) (word_laws 8)
@@ -38,3 +38,6 @@ option_fields_laws = seq_laws (λ c. c) (λ c kind. kind) (λ c. Unit {0}) optio
 
 pub option_area_laws : TailLaws option_area
 option_area_laws = until_laws 40 (λ c. c) (λ c. c < 2 ^ 64) option_fields option_fields_laws
+
+pub option_region_laws : Laws option_region
+option_region_laws = region_laws (λ c. c) option_area option_area_laws

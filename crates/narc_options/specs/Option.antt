@@ -60,3 +60,7 @@ option_fields = seq {C = Unit {0}} {CA = Unit {0}} {CB = ℕ} (λ c. c) (λ c ki
 -- what `OptionArea` means
 abbrev pub option_area : Meaning ℕ (Bor (List ℕ))
 option_area = until 40 (λ c. c) (λ c. c < 2 ^ 64) option_fields
+
+-- what `OptionRegion` means
+abbrev pub option_region : Meaning ℕ (Bor (List ℕ))
+option_region = region (λ c. c) option_area

@@ -1,9 +1,12 @@
 //! The options area of a header.
 use crate::option::{ContextOctets, OptionFields};
-use narc_list::Until;
+use narc_list::{Region, Until};
 
 /// Options, then nothing or an octet 0 and any others, 40 octets at most (RFC 791, section 3.1; RFC 793, section 3.1).
 /// The value is the octets of the options, not copied.
 ///
 /// It is refused, unnamed, at the first bit of the first option that is none.
 pub type OptionArea<'a> = Until<'a, OptionFields, 40, ContextOctets>;
+
+/// An options area of as many octets as the context says.
+pub type OptionRegion<'a> = Region<OptionArea<'a>, ContextOctets>;

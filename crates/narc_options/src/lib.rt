@@ -5,8 +5,8 @@ mod area;
 mod laws;
 mod option;
 
-pub use area::OptionArea;
-pub use laws::{option_area_is_sound, option_fields_are_sound};
+pub use area::{OptionArea, OptionRegion};
+pub use laws::{option_area_is_sound, option_fields_are_sound, option_region_is_sound};
 pub use option::{
     AnyOctets, ByKind, ContextOctets, Data, DataOf, IsKind, IsOptionLength, Kind, KindOf, Length,
     Nothing, OptionFields, RawOption,

@@ -1,4 +1,4 @@
-use Rattle.narc_options.proofs.OptionSound.{area_sound}
+use Rattle.narc_options.proofs.AreaSound.{area_sound}
 use Rattle.narc_options.proofs.laws.option_area_is_sound.Goals as goal
 
 pub returns : goal.returns
