@@ -1,0 +1,3 @@
+pub mod PseudoSums
+pub mod UdpSound
+pub mod UdpChosen

@@ -1,0 +1,5 @@
+use Rattle.narc_transport.proofs.UdpSound.{udp_sound}
+use Rattle.narc_transport.proofs.laws.udp_format_is_sound.Goals as goal
+
+pub returns : goal.returns
+returns c = udp_sound

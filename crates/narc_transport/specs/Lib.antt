@@ -1,0 +1,4 @@
+pub mod Context
+pub mod Udp
+pub mod Laws
+pub mod Parts

@@ -1,0 +1,42 @@
+//! Datagrams by their calls alone: a frame's type names no more of them.
+ghost use Rattle.narc_transport.specs.Parts.{udp_part, udp_part_laws};
+
+use crate::context::Ends;
+use crate::udp::UdpFormat;
+use narc_bits::{Cursor, Steps, Writer};
+use narc_compose::Part;
+use narc_format::{Fault, Tail};
+use narc_packet::Udp;
+use std::sync::ledger::Ledger;
+
+/// `UdpFormat` by its calls.
+pub struct UdpPart;
+
+impl<'a> Part<Cursor<'a>> for UdpPart {
+    type Ctx = (Ends, usize);
+
+    type Value = Udp<'a>;
+
+    ghost meaning = { udp_part };
+
+    #[tactic(auto, unfolding(crate::specs::Parts::udp_part))]
+    fn read<L: Ledger>(
+        ctx: (Ends, usize),
+        cursor: &mut Cursor<'a>,
+        steps: &mut Steps<L>,
+    ) -> Result<Udp<'a>, Fault> {
+        <UdpFormat as Tail<Cursor<'a>>>::read(ctx, cursor, steps)
+    }
+
+    #[tactic(auto, unfolding(crate::specs::Parts::udp_part))]
+    fn size(ctx: (Ends, usize), value: &Udp<'a>) -> usize {
+        <UdpFormat as Tail<Cursor<'a>>>::size(ctx, value)
+    }
+
+    #[tactic(auto, unfolding(crate::specs::Parts::udp_part))]
+    fn write(ctx: (Ends, usize), value: &Udp<'a>, room: &mut [u8], writer: &mut Writer) {
+        <UdpFormat as Tail<Cursor<'a>>>::write(ctx, value, room, writer)
+    }
+
+    ghost laws = { udp_part_laws };
+}
