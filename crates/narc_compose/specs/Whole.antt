@@ -10,5 +10,5 @@ pub record WholeSound (part : Type 0) (width : ℕ) : Type 0 where
   pub octets : width % 8 ≡ 0
 
 -- F, refused at its beginning
-unfoldable pub at_once : {C V : Type 0} → (width : ℕ) → Meaning C V → Meaning C V
-at_once width F = record F { refuses = λ c b f. Changed at_start (F.refuses c b) f; sound = WholeSound F.sound width; whole = true }
+unfoldable pub as_whole : {C V : Type 0} → (width : ℕ) → Meaning C V → Meaning C V
+as_whole width F = record F { refuses = λ c b f. Changed at_start (F.refuses c b) f; sound = WholeSound F.sound width; whole = true }

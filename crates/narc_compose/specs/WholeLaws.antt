@@ -6,13 +6,13 @@ use Rattle.narc_format.specs.Meaning.{Meaning}
 use Rattle.narc_format.specs.Laws.{Laws}
 use Rattle.narc_format.specs.Widths.{IsWide}
 use Rattle.narc_format.proofs.Widths.{wide-sized}
-use Rattle.narc_compose.specs.Whole.{WholeSound, at_once}
+use Rattle.narc_compose.specs.Whole.{WholeSound, as_whole}
 use Rattle.narc_compose.specs.ChangedLaws.{changed_laws}
 
 module _ {C V : Type 0} (width : ℕ) (F : Meaning C V) (L : Laws F) (W : IsWide F width) where
-  pub at_once_laws : Laws (at_once width F)
-  unfolding at_once
-  at_once_laws =
+  pub as_whole_laws : Laws (as_whole width F)
+  unfolding as_whole
+  as_whole_laws =
       let K = changed_laws at_start (λ f. omega arith) {S = WholeSound F.sound width} F (λ s. s.part_sound) L in
       record {
         one_reading = K.one_reading;
@@ -25,6 +25,6 @@ module _ {C V : Type 0} (width : ℕ) (F : Meaning C V) (L : Laws F) (W : IsWide
         whole_octets = λ s w c v b p. ap (λ n. n % 8) (W.sized s.part_sound c v b p) ∙ s.octets;
       }
 
-  pub at_once_is_wide : IsWide (at_once width F) width
-  unfolding at_once
-  at_once_is_wide = wide-sized at_once_laws (λ s. W.sized s.part_sound)
+  pub as_whole_is_wide : IsWide (as_whole width F) width
+  unfolding as_whole
+  as_whole_is_wide = wide-sized as_whole_laws (λ s. W.sized s.part_sound)

@@ -1,5 +1,5 @@
 //! Each rule at concrete types, through its bound.
-#![tactic(auto, unfolding(crate::specs::Seq::seq, crate::specs::Seq::seq_tail, crate::specs::Named::named, crate::specs::Strip::stripped, crate::specs::Union::united, crate::specs::Whole::at_once, narc_scalar::specs::Word::word, narc_list::specs::Bytes::all_octets, narc_bits::specs::Bits::bits_of_number, narc_bits::specs::Bits::bits))]
+#![tactic(auto, unfolding(crate::specs::Seq::seq, crate::specs::Seq::seq_tail, crate::specs::Named::named, crate::specs::Strip::stripped, crate::specs::Union::united, crate::specs::Whole::as_whole, narc_scalar::specs::Word::word, narc_list::specs::Bytes::all_octets, narc_bits::specs::Bits::bits_of_number, narc_bits::specs::Bits::bits))]
 
 ghost use Rattle.std.specs.Prelude.{◌≤◌};
 

@@ -11,8 +11,8 @@ use Rattle.narc_format.specs.declared.fault.Fault.{Fault}
 use Rattle.narc_format.specs.Meaning.{Meaning}
 use Rattle.narc_scalar.specs.Word.{word}
 use Rattle.narc_scalar.specs.WordLaws.{word_laws}
-use Rattle.narc_scalar.specs.Test.{tested}
-use Rattle.narc_scalar.specs.TestLaws.{tested_laws}
+use Rattle.narc_scalar.specs.Tested.{tested}
+use Rattle.narc_scalar.specs.TestedLaws.{tested_laws}
 use Rattle.narc_layout.proofs.NetworkOrder.{number_of-big_endian}
 use Rattle.narc_layout.proofs.Fronts.{few, long, is_number, below}
 use Rattle.narc_layout.proofs.Layouts.{Begins, front_octets}

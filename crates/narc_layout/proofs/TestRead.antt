@@ -5,7 +5,7 @@ use Rattle.narc_bits.specs.Bits.{bits, octets_of_bits}
 use Rattle.narc_bits.proofs.Numbers.{length-bits}
 use Rattle.narc_bits.proofs.Spelled.{bits_same, bits-octets_of_bits, IsOctets-octets_of_bits}
 use Rattle.narc_format.specs.Meaning.{Meaning}
-use Rattle.narc_scalar.specs.Test.{tested}
+use Rattle.narc_scalar.specs.Tested.{tested}
 use Rattle.narc_format.specs.Rows.{Row, row}
 use Rattle.narc_layout.proofs.ContextLayouts.{IsLayout}
 use Rattle.narc_layout.proofs.ReadLayout.{IsRead, read_layout}

@@ -8,7 +8,7 @@ pub mod Octets
 pub mod OctetsLaws
 pub mod Rejected
 pub mod RejectedLaws
-pub mod Test
-pub mod TestLaws
+pub mod Tested
+pub mod TestedLaws
 pub mod Names
 pub mod NamesLaws

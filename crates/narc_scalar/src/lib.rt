@@ -5,14 +5,14 @@ mod constant;
 mod flag;
 mod names;
 mod octets;
-mod test;
+mod tested;
 mod word;
 
 pub use constant::Const;
 pub use flag::Flag;
 pub use names::{EnumOf, Names};
 pub use octets::{Octets4, Octets6};
-pub use test::{Test, Where};
+pub use tested::{Test, Where};
 pub use word::Word;
 
 #[cfg(test)]

@@ -156,7 +156,7 @@ fn octets_keep_their_order(rt: HostRuntime) {
 }
 
 #[test]
-#[tactic(auto, unfolding(crate::specs::Test::tested, crate::specs::Word::word))]
+#[tactic(auto, unfolding(crate::specs::Tested::tested, crate::specs::Word::word))]
 fn a_value_that_fails_the_test_is_refused(rt: HostRuntime) {
     let mut cursor = Cursor::new(&[0b0101_1100]);
     let mut room = [0xff; 8];

@@ -1,9 +1,9 @@
 //! Formats whose values pass a test.
-#![tactic(auto, unfolding(crate::specs::Test::tested))]
+#![tactic(auto, unfolding(crate::specs::Tested::tested))]
 
 ghost use Rattle.std.specs.Prelude.{◌≡◌, Bool};
-ghost use Rattle.narc_scalar.specs.Test.{tested};
-ghost use Rattle.narc_scalar.specs.TestLaws.{tested_laws, tested_is_wide};
+ghost use Rattle.narc_scalar.specs.Tested.{tested};
+ghost use Rattle.narc_scalar.specs.TestedLaws.{tested_laws, tested_is_wide};
 
 use narc_bits::{Input, Steps, Writer};
 use narc_format::{Fault, Format, Wide, Width};

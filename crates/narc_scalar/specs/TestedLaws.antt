@@ -5,7 +5,7 @@ use Rattle.narc_format.specs.Meaning.{Meaning}
 use Rattle.narc_format.specs.Laws.{Laws, HasFront, IsRefused}
 use Rattle.narc_format.specs.Widths.{IsWide}
 use Rattle.narc_scalar.specs.RejectedLaws.{one_fault-rejects, within-rejects, never_both-rejects}
-use Rattle.narc_scalar.specs.Test.{tested}
+use Rattle.narc_scalar.specs.Tested.{tested}
 
 module _ {C V : Type 0} (holds : C → V → Bool) (F : Meaning (Unit {0}) V) where
   -- what the format read, the test decides
