@@ -5,7 +5,7 @@ use Rattle.std.proofs.lemmas.Bool.{ltb-true}
 use Rattle.std.proofs.lemmas.List.{take_at}
 use Rattle.narc_bits.specs.Bits.{bits_of_number, number_of_bits}
 use Rattle.narc_bits.proofs.Numbers.{length-bits, length-bits_of_number, number_of_bits-bits_of_number_lt}
-use Rattle.narc_scalar.specs.Test.{tested}
+use Rattle.narc_scalar.specs.Tested.{tested}
 use Rattle.narc_scalar.specs.Word.{word}
 use Rattle.narc_compose.specs.Conditions.{and_left, and_right}
 use Rattle.narc_compose.specs.declared.either.Either.TheVariants.{Left, Right}

@@ -1,7 +1,7 @@
 -- What an option and an options area promise, each a term made of the laws of its rules.
 use Rattle.std.specs.Prelude.{◌-◌, ◌<◌, ◌^◌}
 use Rattle.narc_format.specs.Laws.{Laws, TailLaws}
-use Rattle.narc_scalar.specs.TestLaws.{tested_laws}
+use Rattle.narc_scalar.specs.TestedLaws.{tested_laws}
 use Rattle.narc_scalar.specs.Word.{word}
 use Rattle.narc_scalar.specs.WordLaws.{word_laws}
 use Rattle.narc_compose.specs.MeasuredLaws.{measured_laws}

@@ -2,8 +2,8 @@
 use Rattle.std.specs.Prelude.{ℕ, ◌-◌, ◌<◌, ◌^◌}
 use Rattle.narc_format.specs.declared.field.TheConstants as field
 use Rattle.narc_format.specs.Laws.{Laws, TailLaws}
-use Rattle.narc_scalar.specs.Test.{tested}
-use Rattle.narc_scalar.specs.TestLaws.{tested_laws}
+use Rattle.narc_scalar.specs.Tested.{tested}
+use Rattle.narc_scalar.specs.TestedLaws.{tested_laws}
 use Rattle.narc_scalar.specs.Word.{word}
 use Rattle.narc_scalar.specs.WordLaws.{word_laws}
 use Rattle.narc_compose.specs.Gap.{gapped}
