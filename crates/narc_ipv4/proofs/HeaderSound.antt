@@ -1,0 +1,354 @@
+-- The header of an IPv4 packet meets the conditions of its rules.
+use Rattle.std.proofs.Common.{◌≡◌, ℕ, zero, suc, ◌+◌, ◌*◌, ◌/◌, ◌%◌, ◌^◌, ◌<◌, ◌≤◌, Bool, true, false, not, List, [], ◌∷◌, ◌++◌, length, take, IsTrue, nat_eq, nat_lt, refl, sym, ap, ◌∙◌, subst, arith, inl, inr, lit≤, length-append, append-nil, append_assoc, if◌then◌else◌}
+use Rattle.std.proofs.Math.Nat.{mod-eq_of_lt}
+use Rattle.std.proofs.lemmas.Bool.{cases_lt, ltb-false, eqb-true, eqb-false}
+use Rattle.std.proofs.lemmas.List.{take_at}
+use Rattle.narc_bits.specs.Bits.{bits_of_number, number_of_bits, octets_of_bits}
+use Rattle.narc_bits.specs.InternetSum.{total as sum_of_octets}
+use Rattle.narc_bits.proofs.Numbers.{length-bits, length-bits_of_number, number_of_bits-bits_of_number_lt}
+use Rattle.narc_format.specs.Holes.{IsHoled}
+use Rattle.narc_format.specs.Widths.{IsWide}
+use Rattle.narc_format.proofs.Widths.{wide-sized}
+use Rattle.narc_scalar.specs.Octets.{fixed_octets}
+use Rattle.narc_scalar.specs.Test.{tested}
+use Rattle.narc_scalar.specs.Word.{word}
+use Rattle.narc_compose.specs.Gap.{gapped}
+use Rattle.narc_compose.specs.GapLaws.{gapped_is_holed}
+use Rattle.narc_compose.specs.Named.{named}
+use Rattle.narc_compose.specs.Seq.{seq}
+use Rattle.narc_compose.specs.SeqHoles.{seq_is_holed}
+use Rattle.narc_compose.specs.Strip.{stripped}
+use Rattle.narc_list.specs.Region.{region}
+use Rattle.narc_list.specs.Until.{until}
+use Rattle.narc_sum.specs.Checked.{checked}
+use Rattle.narc_options.proofs.AreaSound.{region_sound}
+use Rattle.narc_ipv4.specs.Laws.{ip_before_laws}
+use Rattle.narc_ipv4.specs.Header.{is_version, is_header_length, is_total_length, is_flags, header_length_of, area_length_of, RawBefore, RawHeader, HeaderView, header_view, SameHeader, fragment_word_of, header_of, raw_header, first_octet, ip_lengths, ip_middle, ip_before, ip_area, ip_behind, ip_fields, ip_summed, ip_head}
+use Rattle.narc_ipv4.proofs.Pairs.{pair_eq}
+
+first_octet_sound : first_octet.sound
+unfolding named tested word
+first_octet_sound = record {
+  part_sound = record {
+    format = record { part_sound = record { format = (lit≤ tt, lit≤ tt); steady = λ c v w e. ap (is_version c) e }; some = lit≤ tt; known = lit≤ tt };
+    steady = λ c v w e. ap (is_header_length c) e;
+  };
+  some = lit≤ tt;
+  known = lit≤ tt;
+}
+
+lengths_sound : ip_lengths.sound
+unfolding seq named tested word
+lengths_sound = record {
+  first_sound = record {
+    first_sound = first_octet_sound;
+    second_sound = record { part_sound = (lit≤ tt, lit≤ tt); some = lit≤ tt; known = lit≤ tt };
+    carries = record { first_valid = λ c ok. tt; second_valid = λ c v ok a. tt; same = λ c v w a. refl };
+    meets = λ h. cc;
+  };
+  second_sound = record { part_sound = record { format = (lit≤ tt, lit≤ tt); steady = λ c v w e. ap (is_total_length c) e }; some = lit≤ tt; known = lit≤ tt };
+  carries = record { first_valid = λ c ok. tt; second_valid = λ c v ok a. tt; same = λ c v w a. ap (λ first. (header_length_of first, c)) a.0 };
+  meets = λ h. cc;
+}
+
+middle_sound : ip_middle.sound
+unfolding seq named tested word
+middle_sound = record {
+  first_sound = record {
+    first_sound = (lit≤ tt, lit≤ tt);
+    second_sound = record { part_sound = record { format = (lit≤ tt, lit≤ tt); steady = λ c v w e. ap (is_flags c) e }; some = lit≤ tt; known = lit≤ tt };
+    carries = record { first_valid = λ c ok. tt; second_valid = λ c v ok a. tt; same = λ c v w a. refl };
+    meets = λ h. cc;
+  };
+  second_sound = record {
+    first_sound = (lit≤ tt, lit≤ tt);
+    second_sound = (lit≤ tt, lit≤ tt);
+    carries = record { first_valid = λ c ok. tt; second_valid = λ c v ok a. tt; same = λ c v w a. refl };
+    meets = λ h. cc;
+  };
+  carries = record { first_valid = λ c ok. tt; second_valid = λ c v ok a. tt; same = λ c v w a. refl };
+  meets = λ h. cc;
+}
+
+pub front_sound : ip_before.sound
+unfolding seq named tested word
+front_sound = record {
+  first_sound = lengths_sound;
+  second_sound = middle_sound;
+  carries = record { first_valid = λ c ok. ok; second_valid = λ c v ok a. tt; same = λ c v w a. refl };
+  meets = λ h. cc;
+}
+
+-- values that are the same are equal
+front_alike : (v w : RawBefore) → ip_before.alike v w → v ≡ w
+unfolding seq named tested word
+front_alike v w h =
+    pair_eq v w (pair_eq v.0 w.0 (pair_eq v.0.0 w.0.0 h.0.0.0 h.0.0.1) h.0.1)
+    (pair_eq v.1 w.1 (pair_eq v.1.0 w.1.0 h.1.0.0 h.1.0.1) (pair_eq v.1.1 w.1.1 h.1.1.0 h.1.1.1))
+
+-- the ranges of the numbers, and what the tests say
+pub record IsFrontInRange (there : ℕ) (v : RawBefore) : Type 0 where
+  pub first : v.0.0.0 < 2 ^ 8
+  pub version : IsTrue (is_version tt v.0.0.0)
+  pub least : IsTrue (is_header_length tt v.0.0.0)
+  pub tos : v.0.0.1 < 2 ^ 8
+  pub total : v.0.1 < 2 ^ 16
+  pub fits : IsTrue (is_total_length (header_length_of v.0.0.0, there) v.0.1)
+  pub id : v.1.0.0 < 2 ^ 16
+  pub fragment : v.1.0.1 < 2 ^ 16
+  pub flags : IsTrue (is_flags tt v.1.0.1)
+  pub ttl : v.1.1.0 < 2 ^ 8
+  pub protocol : v.1.1.1 < 2 ^ 8
+
+pub front_ranges : (n : ℕ) (v : RawBefore) → ip_before.admits n v → IsFrontInRange n v
+unfolding seq named tested word
+front_ranges n v a = record {
+  first = a.1.1.1.0.0;
+  version = a.1.1.1.0.1;
+  least = a.1.1.1.1;
+  tos = a.1.1.2;
+  total = a.1.2.0;
+  fits = a.1.2.1;
+  id = a.2.1.1;
+  fragment = a.2.1.2.0;
+  flags = a.2.1.2.1;
+  ttl = a.2.2.1;
+  protocol = a.2.2.2;
+}
+
+-- and they admit the value
+pub front_admits : (n : ℕ) → n < 2 ^ 64 → (v : RawBefore) → IsFrontInRange n v → ip_before.admits n v
+unfolding seq named tested word
+front_admits n ok v r = (ok, (ok, (tt, ((r.first, r.version), r.least), r.tos), (r.total, r.fits)), (tt, (tt, r.id, (r.fragment, r.flags)), (tt, r.ttl, r.protocol)))
+
+version_four : (first : ℕ) → IsTrue (is_version tt first) → first / 16 ≡ 4
+version_four first h = eqb-true (first / 16) 4 h
+
+not_true : (b : Bool) → IsTrue (not b) → b ≡ false
+not_true true h = cc
+not_true false h = refl
+
+pub length_five : (first : ℕ) → IsTrue (is_header_length tt first) → 5 ≤ first % 16
+length_five first h = ltb-false (first % 16) 5 (not_true (nat_lt (first % 16) 5) h)
+
+-- a front of 80 bits that stands, and what is known of it
+front_size : (c : ℕ) (v : RawBefore) (b : List Bool) → ip_before.stands c v b → length b ≡ 80
+unfolding seq named tested word
+front_size c v b p =
+    let l = p.first in
+    let o = l.first in
+    let m = p.second in
+    omega (
+      arith,
+      ap length p.joined,
+      length-append p.front p.back,
+      ap length l.joined,
+      length-append l.front l.back,
+      ap length o.joined,
+      length-append o.front o.back,
+      ap length o.first.0.0.1,
+      length-bits_of_number 8 v.0.0.0,
+      ap length o.second.1,
+      length-bits_of_number 8 v.0.0.1,
+      ap length l.second.0.1,
+      length-bits_of_number 16 v.0.1,
+      ap length m.joined,
+      length-append m.front m.back,
+      ap length m.first.joined,
+      length-append m.first.front m.first.back,
+      ap length m.first.first.1,
+      length-bits_of_number 16 v.1.0.0,
+      ap length m.first.second.0.1,
+      length-bits_of_number 16 v.1.0.1,
+      ap length m.second.joined,
+      length-append m.second.front m.second.back,
+      ap length m.second.first.1,
+      length-bits_of_number 8 v.1.1.0,
+      ap length m.second.second.1,
+      length-bits_of_number 8 v.1.1.1,
+    )
+
+pub front_wide : IsWide ip_before 80
+front_wide = wide-sized ip_before_laws (λ s. front_size)
+
+-- the bits begin with these
+record Starts (x b : List Bool) : Type 0 where
+  pub later : List Bool
+  pub is : b ≡ x ++ later
+
+more : (x front back b : List Bool) → b ≡ front ++ back → Starts x front → Starts x b
+more x f d b h s = record { later = s.later ++ d; is = h ∙ ap (λ l. l ++ d) s.is ∙ append_assoc x s.later d }
+
+front_starts : (c : ℕ) (v : RawBefore) (b : List Bool) → ip_before.stands c v b → Starts (bits_of_number 8 v.0.0.0) b × (v.0.0.0 < 2 ^ 8) × IsTrue (is_version tt v.0.0.0) × IsTrue (is_header_length tt v.0.0.0)
+unfolding seq named tested word
+front_starts c v b p =
+    let l = p.first in
+    let o = l.first in
+    let start : Starts (bits_of_number 8 v.0.0.0) o.front = record { later = []; is = o.first.0.0.1 ∙ sym (append-nil (bits_of_number 8 v.0.0.0)) } in
+    (more _ p.front p.back b p.joined (more _ l.front l.back p.front l.joined (more _ o.front o.back l.front o.joined start)), o.first.0.0.0, o.first.0.1, o.first.1)
+
+pub area_sound : ip_area.sound
+unfolding named
+area_sound = record { part_sound = region_sound; some = lit≤ tt; known = lit≤ tt }
+
+behind_sound : ip_behind.sound
+unfolding seq named region until fixed_octets
+behind_sound = record {
+  first_sound = record {
+    first_sound = tt;
+    second_sound = tt;
+    carries = record { first_valid = λ c ok. tt; second_valid = λ c v ok a. tt; same = λ c v w a. refl };
+    meets = λ h. refl;
+  };
+  second_sound = area_sound;
+  carries = record { first_valid = λ c ok. tt; second_valid = λ c v ok a. ok; same = λ c v w a. refl };
+  meets = λ h. refl;
+}
+
+pub fields_sound : ip_fields.sound
+unfolding seq gapped named region until
+fields_sound = record {
+  first_sound = record { part_sound = front_sound; wide = front_wide; words = refl };
+  second_sound = behind_sound;
+  carries = record {
+    first_valid = λ c ok. ok;
+    second_valid = λ c v ok a. omega arith;
+    same = λ c v w a. ap (λ (r : RawBefore). area_length_of r.0.0.0) (front_alike v w a);
+  };
+  meets = λ h. refl;
+}
+
+fields_holed : IsHoled ip_fields 10
+fields_holed = seq_is_holed (λ n. n) (λ n v. area_length_of v.0.0.0) (λ n. n < 2 ^ 64) (gapped 80 ip_before) ip_behind 10 (gapped_is_holed 80 ip_before ip_before_laws)
+
+-- a header has as many octets as it says
+pub fields_size : (c : ℕ) (v : RawHeader) (b : List Bool) → ip_fields.stands c v b → (length b ≡ 8 * header_length_of v.0.0.0.0) × (5 ≤ v.0.0.0.0 % 16)
+unfolding seq named gapped region fixed_octets
+fields_size c v b p =
+    let g = p.first in
+    let d = p.second in
+    let a = d.first in
+    let start = front_starts c v.0 g.front g.stood in
+    let least = length_five v.0.0.0.0 start.3 in (
+      omega (
+        arith,
+        least,
+        ap length p.joined,
+        length-append p.front p.back,
+        ap length g.joined,
+        length-append g.front g.word,
+        g.size,
+        front_size c v.0 g.front g.stood,
+        ap length d.joined,
+        length-append d.front d.back,
+        ap length a.joined,
+        length-append a.front a.back,
+        ap length a.first.is,
+        ap length a.second.is,
+        length-bits v.1.0.0,
+        length-bits v.1.0.1,
+        a.first.size,
+        a.second.size,
+        d.second.size,
+      ),
+      least,
+    )
+
+first_some : (o : ℕ) (l : List ℕ) → 0 < o → 0 < sum_of_octets (o ∷ l)
+unfolding sum_of_octets
+first_some o [] h = omega (arith, h)
+first_some o (p ∷ l) h = omega (arith, h)
+
+-- octets of which the first is not 0 have a sum
+starts_some : (n first : ℕ) (b : List Bool) → 1 ≤ n → first < 2 ^ 8 → 0 < first → Starts (bits_of_number 8 first) b → 0 < sum_of_octets (octets_of_bits n b)
+unfolding octets_of_bits
+starts_some zero first b h small some s = absurd (none h) where
+  none : 1 ≤ 0 → ⊥
+  none h = omega (arith, h)
+starts_some (suc n) first b h small some s =
+    let octet : number_of_bits (take 8 b) ≡ first = ap (λ l. number_of_bits (take 8 l)) s.is ∙ ap number_of_bits (take_at (bits_of_number 8 first) s.later 8 (length-bits_of_number 8 first)) ∙ number_of_bits-bits_of_number_lt 8 first small in
+    first_some _ _ (omega (arith, octet, some))
+
+fields_some : (c : ℕ) (v : RawHeader) (b : List Bool) → ip_fields.stands c v b → 0 < sum_of_octets (octets_of_bits (length b / 8) b)
+unfolding seq gapped
+fields_some c v b p =
+    let g = p.first in
+    let start = front_starts c v.0 g.front g.stood in
+    let size = (fields_size c v b p).0 in
+    let least = (fields_size c v b p).1 in
+    let four = version_four v.0.0.0.0 start.2 in
+    starts_some (length b / 8) v.0.0.0.0 b (omega (arith, size, least)) start.1 (omega (arith, four)) (more _ p.front p.back b p.joined (more _ g.front g.word p.front g.joined start.0))
+
+pub summed_sound : ip_summed.sound
+unfolding named checked seq gapped fixed_octets region
+summed_sound = record {
+  part_sound = record {
+    part_sound = fields_sound;
+    holed = fields_holed;
+    whole = refl;
+    aligned = refl;
+    even = refl;
+    some = λ c ok v b p. let sum = fields_some c v b p in omega (arith, sum);
+    short = λ c ok v b p. let size = (fields_size c v b p).0 in omega (arith, size);
+  };
+  some = lit≤ tt;
+  known = lit≤ tt;
+}
+
+-- the view of a header, by its fields
+abbrev header_seen : RawBefore → (src dst spelled : List ℕ) → HeaderView
+header_seen v src dst spelled = header_view (header_of (v, ((src, dst), record { ref_ptr = (0, 0); now = spelled })))
+
+same_header : (v w : RawHeader) → ip_summed.alike v w → SameHeader (header_of v) (header_of w)
+unfolding named checked seq gapped region until fixed_octets
+same_header v w h =
+    ap (λ b. header_seen b v.1.0.0 v.1.0.1 v.1.1.now) (front_alike v.0 w.0 h.0)
+    ∙ ap (λ s. header_seen w.0 s v.1.0.1 v.1.1.now) h.1.0.0
+    ∙ ap (λ d. header_seen w.0 w.1.0.0 d v.1.1.now) h.1.0.1
+    ∙ ap (λ o. header_seen w.0 w.1.0.0 w.1.0.1 o) h.1.1
+
+-- the fields of a header that can be written are those of its view
+first_back : (first : ℕ) → first / 16 ≡ 4 → 64 + header_length_of first / 4 ≡ first
+first_back first h = omega (arith, h)
+
+flag_number : (n k : ℕ) → n < 2 → (if nat_eq n 1 then k else 0) ≡ k * n
+flag_number zero k h = omega arith
+flag_number (suc zero) k h = omega arith
+flag_number (suc (suc n)) k h = absurd (many n h) where
+  many : (n : ℕ) → suc (suc n) < 2 → ⊥
+  many n h = omega (arith, h)
+
+low_word : (n : ℕ) → n < 2 ^ 16 → IsTrue (is_flags tt n) → n < 2 ^ 15
+low_word n h k = low n h (not_true (nat_eq (n / 32768) 1) k) where
+  low : (n : ℕ) → n < 2 ^ 16 → nat_eq (n / 32768) 1 ≡ false → n < 2 ^ 15
+  low n h k = elim (cases_lt n (2 ^ 15)) [
+    | inl p ↦ p
+    | inr p ↦ absurd (eqb-false (n / 32768) 1 k (omega (arith, h, p)))
+  ]
+
+fragment_back : (n : ℕ) → n < 2 ^ 16 → IsTrue (is_flags tt n) → fragment_word_of (nat_eq (n / 16384 % 2) 1) (nat_eq (n / 8192 % 2) 1) (n % 8192) ≡ n
+fragment_back n h k =
+    let low = low_word n h k in
+    omega (arith, low, flag_number (n / 16384 % 2) 16384 (omega arith), flag_number (n / 8192 % 2) 8192 (omega arith))
+
+header_back : (n : ℕ) (v : RawHeader) → IsFrontInRange n v.0 → raw_header (header_of v) ≡ v
+header_back n v r =
+    pair_eq (raw_header (header_of v)) v
+    (pair_eq _ v.0
+    (pair_eq _ v.0.0 (pair_eq _ v.0.0.0 (first_back v.0.0.0.0 (version_four v.0.0.0.0 r.version)) (mod-eq_of_lt r.tos)) (mod-eq_of_lt r.total))
+    (pair_eq _ v.0.1 (pair_eq _ v.0.1.0 (mod-eq_of_lt r.id) (fragment_back v.0.1.0.1 r.fragment r.flags)) (pair_eq _ v.0.1.1 (mod-eq_of_lt r.ttl) (mod-eq_of_lt r.protocol))))
+    refl
+
+summed_ranges : (n : ℕ) (v : RawHeader) → ip_summed.admits n v → IsFrontInRange n v.0
+unfolding named checked seq gapped
+summed_ranges n v a = front_ranges n v.0 a.admitted.1
+
+pub head_sound : ip_head.sound
+unfolding stripped
+head_sound = record {
+  part_sound = summed_sound;
+  same = same_header;
+  chosen = λ c ok w a.
+      let back = header_back c w (summed_ranges c w a) in
+      record { admitted = subst (λ r. ip_summed.admits c r) (sym back) a; back = ap header_of back };
+}

@@ -1,0 +1,3 @@
+pub mod Option
+pub mod Header
+pub mod Laws

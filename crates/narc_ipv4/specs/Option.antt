@@ -1,0 +1,35 @@
+-- An option of an IPv4 header (RFC 791, section 3.1).
+use Rattle.std.specs.Prelude.{◌≡◌, ℕ, ◌+◌, ◌%◌, List, length}
+use Rattle.std.specs.Borrow.{Bor}
+use Rattle.narc_format.specs.Meaning.{Meaning}
+use Rattle.narc_compose.specs.declared.either.Either.{Either}
+use Rattle.narc_compose.specs.declared.either.Either.TheVariants.{Left, Right}
+use Rattle.narc_compose.specs.Strip.{stripped}
+use Rattle.narc_packet.specs.Options.{IpOptionView, IpNop, IpOther}
+use Rattle.narc_packet.specs.declared.options.IpOption.{IpOption}
+use Rattle.narc_packet.specs.declared.options.IpOption.TheVariants as ip
+use Rattle.narc_options.specs.Option.{RawOption, option_fields}
+
+-- the option without where its data lies
+abbrev pub ip_option_view : IpOption → IpOptionView
+ip_option_view ip.Nop = IpNop
+ip_option_view (ip.Other kind octets) = IpOther kind octets.now
+
+-- the same option, wherever its data lies
+abbrev pub SameIpOption : IpOption → IpOption → Type 0
+SameIpOption o p = ip_option_view o ≡ ip_option_view p
+
+abbrev pub option_of : (kind : ℕ) → Either (Unit {0}) (ℕ × Bor (List ℕ)) → IpOption
+option_of kind (Left u) = ip.Nop
+option_of kind (Right rest) = ip.Other (kind % 256) rest.1
+
+abbrev pub ip_option_of : RawOption → IpOption
+ip_option_of raw = option_of raw.0 raw.1
+
+abbrev pub raw_ip_option : IpOption → RawOption
+raw_ip_option ip.Nop = (1, Left tt)
+raw_ip_option (ip.Other kind octets) = (kind, Right ((2 + length octets.now, octets)))
+
+-- what `IpOptionFormat` means
+abbrev pub ip_option_format : Meaning (Unit {0}) IpOption
+ip_option_format = stripped ip_option_of (λ c o. raw_ip_option o) SameIpOption option_fields

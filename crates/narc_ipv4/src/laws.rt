@@ -1,0 +1,18 @@
+//! What is proved of the formats.
+ghost use Rattle.std.specs.Prelude.{ℕ, ◌≤◌, List, Bool};
+ghost use Rattle.narc_ipv4.specs.declared.as_header.IpHeader.{IpHeader};
+
+use crate::header::IpHead;
+use crate::option::IpOptionFormat;
+use narc_bits::Cursor;
+use narc_format::Format;
+
+/// The conditions of the rules of an option hold.
+pub fn ip_option_format_is_sound()
+    ensures { ⟦<IpOptionFormat as Format<Cursor<'static>>>⟧.meaning.sound }
+{}
+
+/// The conditions of the rules of a header hold.
+pub fn ip_head_is_sound()
+    ensures { ⟦<IpHead<'static> as Format<Cursor<'static>>>⟧.meaning.sound }
+{}

@@ -1,0 +1,15 @@
+//! The header of an IPv4 packet, and its options.
+#![tactic(auto)]
+
+mod as_header;
+mod header;
+mod laws;
+mod option;
+
+pub use as_header::{AsHeader, IpHeader, RawBefore, RawHeader};
+pub use header::{
+    AreaOf, Fields, InFront, IpArea, IpHead, IsFlags, IsHeaderLength, IsTotalLength, IsVersion,
+    LengthsIn, OfArea,
+};
+pub use laws::{ip_head_is_sound, ip_option_format_is_sound};
+pub use option::{AsIpOption, IpOptionFormat};
