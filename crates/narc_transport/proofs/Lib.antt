@@ -1,3 +1,4 @@
 pub mod PseudoSums
 pub mod UdpSound
 pub mod UdpChosen
+pub mod TcpSound

@@ -1,4 +1,5 @@
 pub mod Context
 pub mod Udp
+pub mod Tcp
 pub mod Laws
 pub mod Parts

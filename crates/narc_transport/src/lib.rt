@@ -1,19 +1,25 @@
-//! The formats of the transport layer: UDP datagrams.
+//! The formats of the transport layer: UDP datagrams and TCP segments.
 #![tactic(auto)]
 
+mod as_tcp;
 mod as_udp;
 mod carried;
 mod context;
 mod laws;
 mod parts;
 mod pseudo;
+mod tcp;
+mod tcp_front;
 mod udp;
 mod udp_front;
 
+pub use as_tcp::{AsTcp, TcpWithOffset};
 pub use as_udp::AsUdp;
 pub use carried::{ForFirst, ForSecond};
 pub use context::Ends;
-pub use laws::udp_format_is_sound;
-pub use parts::UdpPart;
+pub use laws::{tcp_format_is_sound, udp_format_is_sound};
+pub use parts::{TcpPart, UdpPart};
+pub use tcp::{AreaBehind, TcpFormat, TcpPseudo};
+pub use tcp_front::{IsOffset, TcpFront};
 pub use udp::{PayloadOf, Surplus, UdpFormat, UdpPseudo};
 pub use udp_front::{IsUdpLength, UdpFront};

@@ -1,7 +1,9 @@
-//! Datagrams by their calls alone: a frame's type names no more of them.
-ghost use Rattle.narc_transport.specs.Parts.{udp_part, udp_part_laws};
+//! Datagrams and segments by their calls alone: a frame's type names no more of them.
+ghost use Rattle.narc_transport.specs.Parts.{tcp_part, tcp_part_laws, udp_part, udp_part_laws};
 
+use crate::as_tcp::TcpWithOffset;
 use crate::context::Ends;
+use crate::tcp::TcpFormat;
 use crate::udp::UdpFormat;
 use narc_bits::{Cursor, Steps, Writer};
 use narc_compose::Part;
@@ -39,4 +41,36 @@ impl<'a> Part<Cursor<'a>> for UdpPart {
     }
 
     ghost laws = { udp_part_laws };
+}
+
+/// `TcpFormat` by its calls.
+pub struct TcpPart;
+
+impl<'a> Part<Cursor<'a>> for TcpPart {
+    type Ctx = (Ends, usize);
+
+    type Value = TcpWithOffset<'a>;
+
+    ghost meaning = { tcp_part };
+
+    #[tactic(auto, unfolding(crate::specs::Parts::tcp_part))]
+    fn read<L: Ledger>(
+        ctx: (Ends, usize),
+        cursor: &mut Cursor<'a>,
+        steps: &mut Steps<L>,
+    ) -> Result<TcpWithOffset<'a>, Fault> {
+        <TcpFormat<'a> as Tail<Cursor<'a>>>::read(ctx, cursor, steps)
+    }
+
+    #[tactic(auto, unfolding(crate::specs::Parts::tcp_part))]
+    fn size(ctx: (Ends, usize), value: &TcpWithOffset<'a>) -> usize {
+        <TcpFormat<'a> as Tail<Cursor<'a>>>::size(ctx, value)
+    }
+
+    #[tactic(auto, unfolding(crate::specs::Parts::tcp_part))]
+    fn write(ctx: (Ends, usize), value: &TcpWithOffset<'a>, room: &mut [u8], writer: &mut Writer) {
+        <TcpFormat<'a> as Tail<Cursor<'a>>>::write(ctx, value, room, writer)
+    }
+
+    ghost laws = { tcp_part_laws };
 }
