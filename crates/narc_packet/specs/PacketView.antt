@@ -2,7 +2,11 @@
 -- Two packets are the same exactly where their views are equal.
 use Rattle.std.specs.Prelude.{ℕ, Bool, List}
 use Rattle.narc_packet.specs.declared.packet.Arp.{Arp}
-use Rattle.narc_packet.specs.Options.{IpOptionView, TcpOptionView, ip_options_in, tcp_options_in}
+use Rattle.narc_packet.specs.Options.{IpOptionView, IpNop, IpOther, TcpOptionView, TcpNop, TcpMss, TcpOther, ip_options_in, tcp_options_in}
+use Rattle.narc_packet.specs.declared.options.IpOption.{IpOption}
+use Rattle.narc_packet.specs.declared.options.IpOption.TheVariants as in_ip
+use Rattle.narc_packet.specs.declared.options.TcpOption.{TcpOption}
+use Rattle.narc_packet.specs.declared.options.TcpOption.TheVariants as in_tcp
 use Rattle.narc_packet.specs.declared.packet.Udp.{Udp}
 use Rattle.narc_packet.specs.declared.packet.Tcp.{Tcp}
 use Rattle.narc_packet.specs.declared.packet.IpBody.{IpBody}
@@ -55,6 +59,15 @@ pub record PacketView : Type 0 where
   pub dst : List ℕ
   pub src : List ℕ
   pub body : EthBodyView
+
+abbrev pub ip_option_view : IpOption → IpOptionView
+ip_option_view in_ip.Nop = IpNop
+ip_option_view (in_ip.Other kind octets) = IpOther kind octets.now
+
+abbrev pub tcp_option_view : TcpOption → TcpOptionView
+tcp_option_view in_tcp.Nop = TcpNop
+tcp_option_view (in_tcp.Mss size) = TcpMss size
+tcp_option_view (in_tcp.Other kind octets) = TcpOther kind octets.now
 
 abbrev pub udp_view : Udp → UdpView
 udp_view u = record { sport = u.sport; dport = u.dport; payload = u.payload.now }

@@ -4,5 +4,5 @@
 mod options;
 mod packet;
 
-pub use options::{IpOption, IpOptions, TcpOption, TcpOptions};
+pub use options::{IpOption, IpOptionIter, IpOptions, TcpOption, TcpOptionIter, TcpOptions};
 pub use packet::{Arp, EthBody, IpBody, Ipv4, Packet, Tcp, Udp};

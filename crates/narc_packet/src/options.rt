@@ -1,33 +1,209 @@
 //! The options of IPv4 and TCP headers, as the octets that spell them.
+ghost use Rattle.std.specs.Prelude.{◌≡◌, ◌↔◌, ◌≤◌, ◌++◌, ◌∷◌, [], IsTrue, IsNone, IfSome, length, map};
+ghost use Rattle.narc_packet.specs.Options.{ip_option, ip_options_in, tcp_options_in, tcp_option_of};
+ghost use Rattle.narc_packet.specs.PacketView.{ip_option_view, tcp_option_view};
+
+use arrayvec::ArrayVec;
+use std::marker::Model;
 
 /// An option of an IPv4 header (RFC 791, section 3.1): no operation, or any other with its data.
-#[derive(Clone, Copy, Debug, Drop, PartialEq, Eq)]
+#[derive(Clone, Copy, Debug, Default, Drop, PartialEq, Eq)]
 pub enum IpOption<'a> {
+    #[default]
     Nop,
     /// A kind from 2 on, and 0 to 38 octets of data.
     Other { kind: u8, data: &'a [u8] },
 }
 
 /// An option of a TCP header (RFC 793, section 3.1): no operation, the maximum segment size, or any other with its data.
-#[derive(Clone, Copy, Debug, Drop, PartialEq, Eq)]
+#[derive(Clone, Copy, Debug, Default, Drop, PartialEq, Eq)]
 pub enum TcpOption<'a> {
+    #[default]
     Nop,
     /// Kind 2 with two octets of data.
     Mss(u16),
-    /// A kind from 2 on, and 0 to 38 octets of data: two where the kind is not 2.
+    /// A kind from 2 on, and 0 to 38 octets of data, which are not two where the kind is 2.
     Other { kind: u8, data: &'a [u8] },
 }
 
-/// The options of an IPv4 header, one behind the other: at most 40 octets.
+impl<'a> TcpOption<'a> {
+    /// The option of TCP that is spelled like this option of IPv4.
+    fn spelled_like(option: IpOption<'a>) -> TcpOption<'a>
+        ensures { tcp_option_view result ≡ tcp_option_of (ip_option_view option.entry) }
+    {
+        match option {
+            IpOption::Nop => TcpOption::Nop,
+            IpOption::Other {
+                kind: 2,
+                data: [high, low],
+            } => TcpOption::Mss(u16::from_be_bytes([*high, *low])),
+            IpOption::Other { kind, data } => TcpOption::Other { kind, data },
+        }
+    }
+}
+
+/// The option in front and the octets behind it; none where the octets end, an octet 0 ends the list, or there is no
+/// length or one below 2 or past the octets.
+fn split_first_option(spelled: &[u8]) -> Option<(IpOption<'_>, &[u8])>
+    ensures none { IsNone result ↔ (ip_options_in spelled.now ≡ []) }
+    ensures first { IfSome result (λ pair. ip_options_in spelled.now ≡ ip_option_view pair.0 ∷ ip_options_in pair.1.now) }
+    ensures cut { IfSome result (λ pair. spelled.now ≡ ip_option (ip_option_view pair.0) ++ pair.1.now) }
+{
+    let (kind, rest) = spelled.split_first()?;
+    match *kind {
+        0 => None,
+        1 => Some((IpOption::Nop, rest)),
+        kind => {
+            let (len, rest) = rest.split_first()?;
+            let count = usize::from(*len).checked_sub(2)?;
+            let (data, rest) = rest.split_at_checked(count)?;
+            Some((IpOption::Other { kind, data }, rest))
+        }
+    }
+}
+
+/// The options of an IPv4 header, one behind the other. Two are equal where their octets are.
 #[derive(Clone, Copy, Debug, Drop, PartialEq, Eq)]
 pub struct IpOptions<'a> {
-    /// The octets that spell the options, without an end of the list.
+    /// The octets that spell the options, without an end of the list: at most 40 in a packet.
     pub spelled: &'a [u8],
 }
 
-/// The options of a TCP header, one behind the other: at most 40 octets.
+impl<'a> IpOptions<'a> {
+    /// No options.
+    pub fn none() -> IpOptions<'a>
+        ensures { result.spelled.now ≡ [] }
+    {
+        IpOptions { spelled: &[] }
+    }
+
+    pub fn is_empty(&self) -> bool
+        ensures { IsTrue result ↔ (ip_options_in self.now.spelled.now ≡ []) }
+    {
+        split_first_option(self.spelled).is_none()
+    }
+
+    /// The options in order.
+    pub fn iter(&self) -> IpOptionIter<'a>
+        ensures { result ≡ ip_options_in self.now.spelled.now }
+    {
+        IpOptionIter { left: self.spelled }
+    }
+
+    /// The options in order, of at most 40 octets.
+    pub fn to_list(&self) -> ArrayVec<IpOption<'a>, 40>
+        requires { length self.now.spelled.now ≤ 40 }
+        ensures { map ip_option_view result.items ≡ ip_options_in self.now.spelled.now }
+    {
+        let mut list = ArrayVec::new();
+        for option in self.iter() {
+            list.push(option);
+        }
+        list
+    }
+}
+
+/// The options of a TCP header, one behind the other. Two are equal where their octets are.
 #[derive(Clone, Copy, Debug, Drop, PartialEq, Eq)]
 pub struct TcpOptions<'a> {
-    /// The octets that spell the options, without an end of the list.
+    /// The octets that spell the options, without an end of the list: at most 40 in a packet.
     pub spelled: &'a [u8],
+}
+
+impl<'a> TcpOptions<'a> {
+    /// No options.
+    pub fn none() -> TcpOptions<'a>
+        ensures { result.spelled.now ≡ [] }
+    {
+        TcpOptions { spelled: &[] }
+    }
+
+    pub fn is_empty(&self) -> bool
+        ensures { IsTrue result ↔ (tcp_options_in self.now.spelled.now ≡ []) }
+    {
+        split_first_option(self.spelled).is_none()
+    }
+
+    /// The options in order.
+    pub fn iter(&self) -> TcpOptionIter<'a>
+        ensures { result ≡ tcp_options_in self.now.spelled.now }
+    {
+        TcpOptionIter { left: self.spelled }
+    }
+
+    /// The options in order, of at most 40 octets.
+    pub fn to_list(&self) -> ArrayVec<TcpOption<'a>, 40>
+        requires { length self.now.spelled.now ≤ 40 }
+        ensures { map tcp_option_view result.items ≡ tcp_options_in self.now.spelled.now }
+    {
+        let mut list = ArrayVec::new();
+        for option in self.iter() {
+            list.push(option);
+        }
+        list
+    }
+}
+
+/// The options of an IPv4 header, seen as the list of those that are left.
+#[derive(Debug, Drop)]
+pub struct IpOptionIter<'a> {
+    left: &'a [u8],
+}
+
+impl<'a> Model for IpOptionIter<'a> {
+    ghost use Rattle.std.specs.Prelude.{List};
+    ghost use Rattle.narc_packet.specs.Options.{IpOptionView, ip_options_in};
+
+    ghost Value = { List IpOptionView };
+
+    ghost view = { λ options. ip_options_in options.left.now };
+}
+
+impl<'a> Iterator for IpOptionIter<'a> {
+    ghost use Rattle.std.specs.Iterator.{YieldsFirstBy, item_count};
+
+    type Item = IpOption<'a>;
+
+    ghost next_gives = { YieldsFirstBy ip_option_view (λ left. left) };
+
+    ghost remaining = { item_count (λ left. left) };
+
+    #[inline(always)]
+    fn next(&mut self) -> Option<IpOption<'a>> {
+        let (option, left) = split_first_option(self.left)?;
+        self.left = left;
+        Some(option)
+    }
+}
+
+/// The options of a TCP header, seen as the list of those that are left.
+#[derive(Debug, Drop)]
+pub struct TcpOptionIter<'a> {
+    left: &'a [u8],
+}
+
+impl<'a> Model for TcpOptionIter<'a> {
+    ghost use Rattle.std.specs.Prelude.{List};
+    ghost use Rattle.narc_packet.specs.Options.{TcpOptionView, tcp_options_in};
+
+    ghost Value = { List TcpOptionView };
+
+    ghost view = { λ options. tcp_options_in options.left.now };
+}
+
+impl<'a> Iterator for TcpOptionIter<'a> {
+    ghost use Rattle.std.specs.Iterator.{YieldsFirstBy, item_count};
+
+    type Item = TcpOption<'a>;
+
+    ghost next_gives = { YieldsFirstBy tcp_option_view (λ left. left) };
+
+    ghost remaining = { item_count (λ left. left) };
+
+    #[inline(always)]
+    fn next(&mut self) -> Option<TcpOption<'a>> {
+        let (option, left) = split_first_option(self.left)?;
+        self.left = left;
+        Some(TcpOption::spelled_like(option))
+    }
 }
