@@ -2,3 +2,4 @@ pub mod PseudoSums
 pub mod UdpSound
 pub mod UdpChosen
 pub mod TcpSound
+pub mod TcpChosen
