@@ -16,3 +16,4 @@ pub mod TestRead
 pub mod Sizes
 pub mod TailReadLayout
 pub mod UnionRead
+pub mod SumReads

@@ -33,15 +33,15 @@ is_false : (a : Bool) → not a ≡ true → a ≡ false
 is_false true h = cc
 is_false false h = refl
 
-is_not : (a : Bool) → a ≡ false → not a ≡ true
+pub is_not : (a : Bool) → a ≡ false → not a ≡ true
 is_not true h = cc
 is_not false h = refl
 
-is_right : (a : Bool) → not a ≡ false → a ≡ true
+pub is_right : (a : Bool) → not a ≡ false → a ≡ true
 is_right true h = refl
 is_right false h = cc
 
-not_bad : (a : Bool) → a ≡ true → not a ≡ false
+pub not_bad : (a : Bool) → a ≡ true → not a ≡ false
 not_bad true h = refl
 not_bad false h = cc
 
@@ -187,7 +187,7 @@ module _ {C V : Type 0} {F : Meaning C V} {Is : C → V → List ℕ → Type 0}
   }
 
 -- a good total, as a test
-good_true : (n : ℕ) → IsGoodTotal n → IsTrue (nat_lt 0 n && nat_eq (n % 65535) 0)
+pub good_true : (n : ℕ) → IsGoodTotal n → IsTrue (nat_lt 0 n && nat_eq (n % 65535) 0)
 good_true n g = both_true (nat_lt 0 n) (nat_eq (n % 65535) 0) (lt-ltb 0 n g.some) (eq_true (n % 65535) g.multiple) where
   both_true : (a b : Bool) → a ≡ true → b ≡ true → IsTrue (a && b)
   both_true true b h k = k
@@ -196,7 +196,7 @@ good_true n g = both_true (nat_lt 0 n) (nat_eq (n % 65535) 0) (lt-ltb 0 n g.some
   eq_true : (k : ℕ) → k ≡ 0 → nat_eq k 0 ≡ true
   eq_true k h = ap (λ a. nat_eq a 0) h
 
-good_of : (n : ℕ) → IsTrue (nat_lt 0 n && nat_eq (n % 65535) 0) → IsGoodTotal n
+pub good_of : (n : ℕ) → IsTrue (nat_lt 0 n && nat_eq (n % 65535) 0) → IsGoodTotal n
 good_of n h = record { some = ltb-true 0 n (and_left (nat_lt 0 n) (nat_eq (n % 65535) 0) h); multiple = eqb-true (n % 65535) 0 (and_right (nat_lt 0 n) (nat_eq (n % 65535) 0) h) }
 
 -- the Internet sum, behind a pseudo header of an even number of octets
