@@ -1,2 +1,5 @@
 pub mod OptionSound
 pub mod AreaSound
+pub mod OptionLists
+pub mod OptionOctets
+pub mod AreaRead
