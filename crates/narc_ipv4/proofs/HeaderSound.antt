@@ -10,7 +10,7 @@ use Rattle.narc_format.specs.Holes.{IsHoled}
 use Rattle.narc_format.specs.Widths.{IsWide}
 use Rattle.narc_format.proofs.Widths.{wide-sized}
 use Rattle.narc_scalar.specs.Octets.{fixed_octets}
-use Rattle.narc_scalar.specs.Test.{tested}
+use Rattle.narc_scalar.specs.Tested.{tested}
 use Rattle.narc_scalar.specs.Word.{word}
 use Rattle.narc_compose.specs.Gap.{gapped}
 use Rattle.narc_compose.specs.GapLaws.{gapped_is_holed}

@@ -4,7 +4,7 @@ use Rattle.std.specs.Borrow.{Bor}
 use Rattle.narc_format.specs.declared.field.TheConstants as field
 use Rattle.narc_format.specs.Meaning.{Meaning}
 use Rattle.narc_scalar.specs.Octets.{fixed_octets}
-use Rattle.narc_scalar.specs.Test.{tested}
+use Rattle.narc_scalar.specs.Tested.{tested}
 use Rattle.narc_scalar.specs.Word.{word}
 use Rattle.narc_compose.specs.Gap.{gapped}
 use Rattle.narc_compose.specs.Named.{named}

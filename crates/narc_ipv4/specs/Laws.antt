@@ -5,8 +5,8 @@ use Rattle.narc_format.specs.Meaning.{Meaning}
 use Rattle.narc_format.specs.Laws.{Laws}
 use Rattle.narc_scalar.specs.Octets.{fixed_octets}
 use Rattle.narc_scalar.specs.OctetsLaws.{fixed_octets_laws}
-use Rattle.narc_scalar.specs.Test.{tested}
-use Rattle.narc_scalar.specs.TestLaws.{tested_laws}
+use Rattle.narc_scalar.specs.Tested.{tested}
+use Rattle.narc_scalar.specs.TestedLaws.{tested_laws}
 use Rattle.narc_scalar.specs.Word.{word}
 use Rattle.narc_scalar.specs.WordLaws.{word_laws}
 use Rattle.narc_compose.specs.Both.{both}
