@@ -1,11 +1,13 @@
 -- The options in octets, from the first on.
-use Rattle.std.proofs.Common.{◌≡◌, ◌≢◌, ℕ, zero, suc, ◌+◌, ◌-◌, ◌<◌, ◌≤◌, Bool, true, false, ◌||◌, if◌then◌else◌, List, [], ◌∷◌, ◌++◌, length, length-append, length-take-le, append_assoc, take-append-drop, map, take, drop, refl, sym, ap, ◌∙◌, subst, arith}
+use Rattle.std.proofs.Common.{◌≡◌, ◌↔◌, ℕ, zero, suc, ◌+◌, ◌-◌, ◌<◌, ◌≤◌, true, false, ◌||◌, if◌then◌else◌, List, [], ◌∷◌, ◌++◌, length, length-append, length-take-le, append_assoc, take-append-drop, take, drop, refl, sym, ap, ◌∙◌, subst, arith}
 use Rattle.std.specs.Prelude.{nat_lt, flat_map}
 use Rattle.std.proofs.Math.Seq.{take-append_seam, drop-append_seam}
-use Rattle.std.proofs.lemmas.List.{length-map}
+use Rattle.std.proofs.lemmas.List.{length-map, append_cancel_left}
 use Rattle.std.proofs.lemmas.Bool.Decides.{nat_tests}
 use Rattle.std.specs.List.{AllByRecursion}
-use Rattle.narc_packet.specs.Options.{IpOptionView, IpNop, IpOther, other_option, ip_option, IsIpOption, options_from, ip_options_in, is_bad_option, option_rest, first_option, tcp_option_of, tcp_options_in}
+use Rattle.narc_bits.specs.Octets.{IsOctets}
+use Rattle.narc_bits.proofs.Octets.{IsOctets-take}
+use Rattle.narc_packet.specs.Options.{IpOptionView, IpNop, IpOther, other_option, ip_option, IsIpOption, options_from, ip_options_in, is_bad_option, option_rest, first_option, tcp_option_of, tcp_options_in, AreIpOptions}
 
 pub options_from-drop : (skip : ℕ) (l : List ℕ) → options_from skip l ≡ ip_options_in (drop skip l)
 options_from-drop zero l = refl
@@ -63,3 +65,43 @@ length-options_from zero (suc octet ∷ l) =
 
 pub length-tcp_options_in : (l : List ℕ) → length (tcp_options_in l) ≤ length l
 length-tcp_options_in l = omega (arith, length-map (ip_options_in l) tcp_option_of, length-options_from 0 l)
+
+-- octets spell options and nothing else exactly where those behind the first option do
+pub are-behind : (left behind : List ℕ) (option : IpOptionView) → ip_options_in left ≡ option ∷ ip_options_in behind → left ≡ ip_option option ++ behind
+    → (flat_map ip_option (ip_options_in behind) ≡ behind) ↔ (flat_map ip_option (ip_options_in left) ≡ left)
+are-behind left behind option first cut =
+    let whole : flat_map ip_option (ip_options_in left) ≡ ip_option option ++ flat_map ip_option (ip_options_in behind) = ap (flat_map ip_option) first in (
+      λ e. whole ∙ ap (λ l. ip_option option ++ l) e ∙ sym cut,
+      λ e. append_cancel_left (ip_option option) (flat_map ip_option (ip_options_in behind)) behind (sym whole ∙ e ∙ cut),
+    )
+
+-- an option with a kind and data in octets, but of any length
+abbrev pub IsFound : IpOptionView → Type 0
+IsFound IpNop = Unit {0}
+IsFound (IpOther kind octets) = (2 ≤ kind) × (kind < 256) × IsOctets octets
+
+-- the options in octets are such
+pub each_found : (skip : ℕ) (l : List ℕ) → IsOctets l → AllByRecursion IsFound (options_from skip l)
+each_found skip [] octets = tt
+each_found (suc skip) (octet ∷ l) octets = each_found skip l octets.1
+each_found zero (zero ∷ l) octets = tt
+each_found zero (suc zero ∷ l) octets = (tt, each_found zero l octets.1)
+each_found zero (suc (suc kind) ∷ []) octets = tt
+each_found zero (suc (suc kind) ∷ len ∷ l) octets =
+    let behind = options_from (len - 1) (len ∷ l) in
+    elim (is_bad_option (suc (suc kind) ∷ len ∷ l)) as (λ b. AllByRecursion IsFound (if b then [] else IpOther (suc (suc kind)) (take (len - 2) l) ∷ behind))
+    [ true ↦ tt | false ↦ ((omega arith, octets.0, IsOctets-take (len - 2) l octets.1.1), each_found (len - 1) (len ∷ l) octets.1) ]
+
+-- options that few octets spell have few octets each
+each_is_spelled : (options : List IpOptionView) → AllByRecursion IsFound options → length (flat_map ip_option options) ≤ 40 → AllByRecursion IsIpOption options
+each_is_spelled [] found few = tt
+each_is_spelled (IpNop ∷ options) found few = (tt, each_is_spelled options found.1 (omega (arith, few)))
+each_is_spelled (IpOther kind l ∷ options) found few =
+    let size = length-append l (flat_map ip_option options) in (
+      record { least = found.0.0; kind_range = found.0.1; bound = omega (arith, few, size); each = found.0.2 },
+      each_is_spelled options found.1 (omega (arith, few, size)),
+    )
+
+pub AreIpOptions-few : (l : List ℕ) → IsOctets l → length l ≤ 40 → flat_map ip_option (ip_options_in l) ≡ l → AreIpOptions l
+AreIpOptions-few l octets few e =
+    (e, each_is_spelled (ip_options_in l) (each_found 0 l octets) (subst (λ s. length s ≤ 40) (sym e) few))

@@ -1,5 +1,5 @@
 -- The refusals of a frame: which field is the first without an admissible reading, and at which octet.
-use Rattle.std.specs.Prelude.{ℕ, ◌+◌, ◌*◌, ◌/◌, ◌%◌, Bool, not, ◌&&◌, ◌||◌, List, [], ◌∷◌, ◌++◌, length, take, drop, nat_eq, nat_lt, slice_range, Option, Some, None, unwrap_or, is_some, if◌then◌else◌}
+use Rattle.std.specs.Prelude.{ℕ, ◌+◌, ◌*◌, ◌/◌, ◌%◌, Bool, not, ◌&&◌, ◌||◌, List, [], ◌∷◌, ◌++◌, length, take, drop, nat_eq, nat_lt, slice_range, Option, unwrap_or, is_some, if◌then◌else◌}
 use Rattle.narc_bits.specs.Octets.{is_shorter, number_at}
 use Rattle.narc_bits.specs.InternetSum.{is_good_sum}
 use Rattle.narc_format.specs.declared.field.TheConstants as field

@@ -1,8 +1,13 @@
 //! Packets, and what octets are a frame of one.
 #![tactic(auto)]
 
+mod option_list;
 mod options;
 mod packet;
+mod ranges;
+mod well_formed;
 
+pub use option_list::{IpOptionList, OptionError, TcpOptionList};
 pub use options::{IpOption, IpOptionIter, IpOptions, TcpOption, TcpOptionIter, TcpOptions};
 pub use packet::{Arp, EthBody, IpBody, Ipv4, Packet, Tcp, Udp};
+pub use well_formed::is_well_formed;

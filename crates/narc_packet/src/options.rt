@@ -1,5 +1,5 @@
 //! The options of IPv4 and TCP headers, as the octets that spell them.
-ghost use Rattle.std.specs.Prelude.{◌≡◌, ◌↔◌, ◌≤◌, ◌++◌, ◌∷◌, [], IsTrue, IsNone, IfSome, length, map};
+ghost use Rattle.std.specs.Prelude.{◌≡◌, ◌↔◌, ◌<◌, ◌≤◌, ◌++◌, ◌∷◌, [], IsTrue, IsNone, IfSome, length, map, flat_map};
 ghost use Rattle.narc_packet.specs.Options.{ip_option, ip_options_in, tcp_options_in, tcp_option_of};
 ghost use Rattle.narc_packet.specs.PacketView.{ip_option_view, tcp_option_view};
 
@@ -47,6 +47,7 @@ impl<'a> TcpOption<'a> {
 fn split_first_option(spelled: &[u8]) -> Option<(IpOption<'_>, &[u8])>
     ensures none { IsNone result ↔ (ip_options_in spelled.now ≡ []) }
     ensures first { IfSome result (λ pair. ip_options_in spelled.now ≡ ip_option_view pair.0 ∷ ip_options_in pair.1.now) }
+    ensures shorter { IfSome result (λ pair. length pair.1.now < length spelled.now) }
     ensures cut { IfSome result (λ pair. spelled.now ≡ ip_option (ip_option_view pair.0) ++ pair.1.now) }
 {
     let (kind, rest) = spelled.split_first()?;
@@ -60,6 +61,17 @@ fn split_first_option(spelled: &[u8]) -> Option<(IpOption<'_>, &[u8])>
             Some((IpOption::Other { kind, data }, rest))
         }
     }
+}
+
+/// Whether the octets spell options one behind the other, and nothing else.
+pub(crate) fn are_options(octets: &[u8]) -> bool
+    ensures { IsTrue result ↔ (flat_map ip_option (ip_options_in octets.now) ≡ octets.now) }
+{
+    let mut left = octets;
+    while let Some((_, behind)) = split_first_option(left) {
+        left = behind;
+    }
+    left.is_empty()
 }
 
 /// The options of an IPv4 header, one behind the other. Two are equal where their octets are.
