@@ -1,3 +1,4 @@
 pub mod Pairs
 pub mod OptionSound
 pub mod HeaderSound
+pub mod HeaderChosen

@@ -1,5 +1,5 @@
 -- The header of an IPv4 packet (RFC 791).
-use Rattle.std.specs.Prelude.{◌≡◌, ℕ, ◌+◌, ◌*◌, ◌-◌, ◌/◌, ◌%◌, ◌^◌, ◌<◌, Bool, not, ◌&&◌, List, [], nat_lt, nat_eq, if◌then◌else◌}
+use Rattle.std.specs.Prelude.{◌≡◌, ℕ, ◌+◌, ◌*◌, ◌-◌, ◌/◌, ◌%◌, ◌^◌, ◌<◌, ◌≤◌, Bool, not, ◌&&◌, List, [], nat_lt, nat_eq, if◌then◌else◌}
 use Rattle.std.specs.Borrow.{Bor}
 use Rattle.narc_format.specs.declared.field.TheConstants as field
 use Rattle.narc_format.specs.Meaning.{Meaning}
@@ -167,3 +167,7 @@ ip_summed = named field.IPV4_CHECKSUM (checked (λ c n. []) 10 ip_fields)
 -- what `IpHead` means
 abbrev pub ip_head : Meaning ℕ IpHeader
 ip_head = stripped header_of (λ c h. raw_header h) SameHeader ip_summed
+
+-- a header stands wherever its total length has room
+abbrev pub StandsElsewhere : Meaning ℕ IpHeader → Type 0
+StandsElsewhere m = (c d : ℕ) (h : IpHeader) (b : List Bool) → h.total ≤ d → m.stands c h b → m.stands d h b

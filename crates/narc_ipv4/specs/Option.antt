@@ -5,15 +5,10 @@ use Rattle.narc_format.specs.Meaning.{Meaning}
 use Rattle.narc_compose.specs.declared.either.Either.{Either}
 use Rattle.narc_compose.specs.declared.either.Either.TheVariants.{Left, Right}
 use Rattle.narc_compose.specs.Strip.{stripped}
-use Rattle.narc_packet.specs.Options.{IpOptionView, IpNop, IpOther}
+use Rattle.narc_packet.specs.PacketView.{ip_option_view}
 use Rattle.narc_packet.specs.declared.options.IpOption.{IpOption}
 use Rattle.narc_packet.specs.declared.options.IpOption.TheVariants as ip
 use Rattle.narc_options.specs.Option.{RawOption, option_fields}
-
--- the option without where its data lies
-abbrev pub ip_option_view : IpOption → IpOptionView
-ip_option_view ip.Nop = IpNop
-ip_option_view (ip.Other kind octets) = IpOther kind octets.now
 
 -- the same option, wherever its data lies
 abbrev pub SameIpOption : IpOption → IpOption → Type 0

@@ -1,6 +1,5 @@
 //! What is proved of the formats.
-ghost use Rattle.std.specs.Prelude.{ℕ, ◌≤◌, List, Bool};
-ghost use Rattle.narc_ipv4.specs.declared.as_header.IpHeader.{IpHeader};
+ghost use Rattle.narc_ipv4.specs.Header.{StandsElsewhere};
 
 use crate::header::IpHead;
 use crate::option::IpOptionFormat;
@@ -15,4 +14,9 @@ pub fn ip_option_format_is_sound()
 /// The conditions of the rules of a header hold.
 pub fn ip_head_is_sound()
     ensures { ⟦<IpHead<'static> as Format<Cursor<'static>>>⟧.meaning.sound }
+{}
+
+/// A header stands wherever its total length has room.
+pub fn ip_head_moves()
+    ensures { StandsElsewhere ⟦<IpHead<'static> as Format<Cursor<'static>>>⟧.meaning }
 {}

@@ -11,5 +11,5 @@ pub use header::{
     AreaOf, Fields, InFront, IpArea, IpHead, IsFlags, IsHeaderLength, IsTotalLength, IsVersion,
     LengthsIn, OfArea,
 };
-pub use laws::{ip_head_is_sound, ip_option_format_is_sound};
+pub use laws::{ip_head_is_sound, ip_head_moves, ip_option_format_is_sound};
 pub use option::{AsIpOption, IpOptionFormat};

@@ -26,7 +26,7 @@ use Rattle.narc_options.specs.Option.{RawOption, option_fields, option_area}
 use Rattle.narc_options.specs.Laws.{option_fields_laws, option_area_laws}
 use Rattle.narc_options.proofs.OptionSound.{option_sound}
 use Rattle.narc_options.proofs.AreaSound.{area_sound}
-use Rattle.narc_options.proofs.OptionLists.{spelled, AreOptions, are_options, bad_of, none_bad, bad_here, option_there, spelled_each}
+use Rattle.narc_options.proofs.Spellings.{spelled, AreOptions, are_options, bad_of, none_bad, bad_here, option_there, spelled_each}
 use Rattle.narc_options.proofs.OptionOctets.{raw_view, fields_of, raw_option, fields_are_raw, view_of_fields, option_octets}
 
 -- the options that octets are

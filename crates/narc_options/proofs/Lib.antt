@@ -1,5 +1,5 @@
 pub mod OptionSound
 pub mod AreaSound
-pub mod OptionLists
+pub mod Spellings
 pub mod OptionOctets
 pub mod AreaRead

@@ -5,7 +5,7 @@ use Rattle.std.proofs.lemmas.Bool.{lt-ltb, eqb-true, eqb-false}
 use Rattle.std.proofs.lemmas.List.{nil_from_length}
 use Rattle.narc_bits.specs.Bits.{bits, bits_of_number}
 use Rattle.narc_bits.proofs.Numbers.{length-bits}
-use Rattle.narc_scalar.specs.Test.{tested}
+use Rattle.narc_scalar.specs.Tested.{tested}
 use Rattle.narc_scalar.specs.Word.{word}
 use Rattle.narc_compose.specs.declared.either.Either.{Either}
 use Rattle.narc_compose.specs.declared.either.Either.TheVariants.{Left, Right}

@@ -1,4 +1,4 @@
--- Octets as options: the spellings of options are read as these options, and a bad option is found behind the good ones.
+-- The spellings of options, and the first bad option behind them.
 use Rattle.std.proofs.Common.{◌≡◌, ℕ, zero, suc, ◌+◌, ◌-◌, ◌<◌, ◌≤◌, Bool, true, false, ◌||◌, List, [], ◌∷◌, ◌++◌, length, take, drop, Some, None, nat_lt, if◌then◌else◌, refl, sym, ap, ◌∙◌, subst, arith, length-append, length-take, append_assoc, append-nil, take-append-drop}
 use Rattle.std.specs.Prelude.{flat_map}
 use Rattle.std.specs.List.{AllByRecursion}
@@ -6,14 +6,10 @@ use Rattle.std.proofs.lemmas.Bool.{le-ltb, ltb-false}
 use Rattle.std.proofs.lemmas.List.{take_at, drop_at}
 use Rattle.narc_bits.specs.Octets.{IsOctets}
 use Rattle.narc_bits.proofs.Octets.{IsOctets-append, IsOctets-take}
+use Rattle.narc_packet.proofs.OptionLists.{ip_options_in-append}
 use Rattle.narc_packet.specs.Options.{IpOptionView, IpNop, IpOther, ip_option, IsIpOption, IsListEnd, is_bad_option, option_rest, bad_option_from, options_from, ip_options_in, AreIpOptions}
 
--- behind `skip` octets the options are those of what is left
-options_behind : (skip : ℕ) (l : List ℕ) → options_from skip l ≡ options_from 0 (drop skip l)
-options_behind zero l = refl
-options_behind (suc skip) [] = refl
-options_behind (suc skip) (octet ∷ l) = options_behind skip l
-
+-- behind `skip` octets a bad option is found in what is left
 bad_behind : (skip place : ℕ) (l : List ℕ) → bad_option_from skip place l ≡ bad_option_from 0 (place + skip) (drop skip l)
 bad_behind zero place l = ap (λ p. bad_option_from 0 p l) (omega arith)
 bad_behind (suc skip) place [] = refl
@@ -42,26 +38,10 @@ beyond octets later =
     let size : 2 + length octets - 1 ≡ suc (length octets) = omega arith in
     ap (λ n. drop n ((2 + length octets) ∷ (octets ++ later))) size ∙ drop_at octets later (length octets) refl
 
-data_taken : (octets later : List ℕ) → take (2 + length octets - 2) (octets ++ later) ≡ octets
-data_taken octets later = take_at octets later (2 + length octets - 2) (omega arith)
-
 few_kinds : {A : Type 0} (kind : ℕ) → 2 ≤ kind → kind < 2 → A
 few_kinds kind h k = absurd (none h k) where
   none : 2 ≤ kind → kind < 2 → ⊥
   none h k = omega (arith, h, k)
-
--- an option in front is the first
-pub options_more : (o : IpOptionView) → IsIpOption o → (later : List ℕ) → ip_options_in (ip_option o ++ later) ≡ o ∷ ip_options_in later
-options_more IpNop h later = refl
-options_more (IpOther zero octets) h later = few_kinds 0 h.least (omega arith)
-options_more (IpOther (suc zero) octets) h later = few_kinds 1 h.least (omega arith)
-options_more (IpOther (suc (suc kind)) octets) h later =
-    let n = 2 + length octets in
-    let next = options_from (n - 1) (n ∷ (octets ++ later)) in
-    let here = IpOther (suc (suc kind)) (take (n - 2) (octets ++ later)) in
-    ap (λ t. if t then [] else here ∷ next) (other_good octets later)
-    ∙ ap (λ d. IpOther (suc (suc kind)) d ∷ next) (data_taken octets later)
-    ∙ ap (λ l. IpOther (suc (suc kind)) octets ∷ l) (options_behind (n - 1) (n ∷ (octets ++ later)) ∙ ap (options_from 0) (beyond octets later))
 
 -- no bad option is in it
 pub bad_more : (o : IpOptionView) → IsIpOption o → (place : ℕ) (later : List ℕ) → bad_option_from 0 place (ip_option o ++ later) ≡ bad_option_from 0 (place + length (ip_option o)) later
@@ -86,21 +66,13 @@ AreOptions os = AllByRecursion IsIpOption os
 joined_more : (o : IpOptionView) (os : List IpOptionView) (rest : List ℕ) → spelled (o ∷ os) ++ rest ≡ ip_option o ++ (spelled os ++ rest)
 joined_more o os rest = append_assoc (ip_option o) (spelled os) rest
 
-pub options_of : (os : List IpOptionView) → AreOptions os → (rest : List ℕ) → ip_options_in (spelled os ++ rest) ≡ os ++ ip_options_in rest
-options_of [] h rest = refl
-options_of (o ∷ os) h rest = ap (options_from 0) (joined_more o os rest) ∙ options_more o h.0 (spelled os ++ rest) ∙ ap (λ l. o ∷ l) (options_of os h.1 rest)
-
 pub bad_of : (os : List IpOptionView) → AreOptions os → (place : ℕ) (rest : List ℕ) → bad_option_from 0 place (spelled os ++ rest) ≡ bad_option_from 0 (place + length (spelled os)) rest
 bad_of [] h place rest = ap (λ p. bad_option_from 0 p rest) (omega arith)
 bad_of (o ∷ os) h place rest =
     let far : place + length (ip_option o) + length (spelled os) ≡ place + length (spelled (o ∷ os)) = omega (arith, length-append (ip_option o) (spelled os)) in
     ap (bad_option_from 0 place) (joined_more o os rest) ∙ bad_more o h.0 place (spelled os ++ rest) ∙ bad_of os h.1 (place + length (ip_option o)) rest ∙ ap (λ p. bad_option_from 0 p rest) far
 
--- an end has no options, and none that is bad
-pub no_options : (rest : List ℕ) → IsListEnd rest → ip_options_in rest ≡ []
-no_options [] h = refl
-no_options (octet ∷ l) h = ap (λ n. options_from 0 (n ∷ l)) h
-
+-- none is bad in an end
 pub none_bad : (place : ℕ) (rest : List ℕ) → IsListEnd rest → bad_option_from 0 place rest ≡ None
 none_bad place [] h = refl
 none_bad place (octet ∷ l) h = ap (λ n. bad_option_from 0 place (n ∷ l)) h
@@ -113,7 +85,7 @@ bad_here place (suc octet ∷ l) h = ap (λ t. if t then Some place else bad_opt
 
 -- the octets of options are read as these
 pub options_again : (os : List IpOptionView) → AreOptions os → ip_options_in (spelled os) ≡ os
-options_again os h = ap (options_from 0) (sym (append-nil (spelled os))) ∙ options_of os h [] ∙ append-nil os
+options_again os h = ap ip_options_in (sym (append-nil (spelled os))) ∙ ip_options_in-append os [] h ∙ append-nil os
 
 pub are_options : (os : List IpOptionView) → AreOptions os → AreIpOptions (spelled os)
 are_options os h = let same = options_again os h in (ap spelled same, subst AreOptions (sym same) h)
