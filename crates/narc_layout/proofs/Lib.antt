@@ -17,3 +17,4 @@ pub mod Sizes
 pub mod TailReadLayout
 pub mod UnionRead
 pub mod SumReads
+pub mod SameRows

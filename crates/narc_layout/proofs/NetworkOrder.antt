@@ -7,7 +7,7 @@ use Rattle.narc_bits.specs.Octets.{IsOctets, big_endian, number_of}
 use Rattle.narc_bits.specs.Bits.{bits, bits_of_number, number_of_bits}
 use Rattle.narc_bits.proofs.Numbers.{bits_of_number-append, number_of_bits-bits_of_number_lt}
 use Rattle.narc_bits.proofs.Octets.{IsOctets-big_endian}
-use Rattle.narc_bits.proofs.Spelled.{bits-big_endian, length-big_endian}
+use Rattle.narc_bits.proofs.Spelled.{bits_same, bits-big_endian, length-big_endian}
 
 pow-octet : (n : ℕ) → 2 ^ (8 * suc n) ≡ 256 * 2 ^ (8 * n)
 pow-octet n = let size : 8 * suc n ≡ 8 + 8 * n = omega arith in ap (λ m. 2 ^ m) size ∙ pow-add 2 8 (8 * n)
@@ -48,3 +48,7 @@ number_of-spelled l k v h size small e =
 
 pub number_of-big_endian : (k v : ℕ) → v < 2 ^ (8 * k) → number_of (big_endian k v) ≡ v
 number_of-big_endian k v small = number_of-spelled (big_endian k v) k v (IsOctets-big_endian k v) (length-big_endian k v) small (bits-big_endian k v)
+
+-- octets are those of their number
+pub big_endian-number_of : (l : List ℕ) → IsOctets l → big_endian (length l) (number_of l) ≡ l
+big_endian-number_of l h = bits_same (big_endian (length l) (number_of l)) l (IsOctets-big_endian (length l) (number_of l)) h (bits-big_endian (length l) (number_of l) ∙ sym (bits-number_of l h))

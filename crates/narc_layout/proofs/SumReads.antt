@@ -45,12 +45,12 @@ word_in_hole hole o each room =
     ap (take 16) (sym (bits-drop o hole (omega (arith, room)))) ∙ sym (bits-take back 2 (omega (arith, room, length-drop hole o))) in
     ap (λ n. nat_eq n 0) (ap number_of_bits cut ∙ number_of_octets (take 2 back) (IsOctets-take 2 back (IsOctets-drop hole o each)) ∙ ap (λ k. number_of (take k back)) (sym two))
 
-or_true : (a b : Bool) → (a ≡ true) ⊎ IsTrue b → IsTrue (a || b)
+pub or_true : (a b : Bool) → (a ≡ true) ⊎ IsTrue b → IsTrue (a || b)
 or_true true b h = refl
 or_true false b (inl h) = cc
 or_true false b (inr h) = h
 
-or_parts : (a b : Bool) → IsTrue (a || b) → (a ≡ true) ⊎ IsTrue b
+pub or_parts : (a b : Bool) → IsTrue (a || b) → (a ≡ true) ⊎ IsTrue b
 or_parts true b h = inl refl
 or_parts false b h = inr h
 
