@@ -2,3 +2,6 @@ pub mod Pairs
 pub mod OptionSound
 pub mod HeaderSound
 pub mod HeaderChosen
+pub mod FirstOctet
+pub mod BeforeRead
+pub mod HeaderRead
