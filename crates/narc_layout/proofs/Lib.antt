@@ -1,5 +1,6 @@
 pub mod NetworkOrder
 pub mod Rows
+pub mod RowSteps
 pub mod Fronts
 pub mod Layouts
 pub mod BothLayout
@@ -18,3 +19,4 @@ pub mod TailReadLayout
 pub mod UnionRead
 pub mod SumReads
 pub mod SameRows
+pub mod PlainRead

@@ -34,7 +34,7 @@ pub struct Arp {
 }
 
 /// An IPv4 packet (RFC 791), and what it carries.
-#[derive(Debug, Drop, PartialEq, Eq)]
+#[derive(Clone, Copy, Debug, Drop, PartialEq, Eq)]
 pub struct Ipv4<'a> {
     pub tos: u8,
     pub id: u16,
@@ -52,7 +52,7 @@ pub struct Ipv4<'a> {
 }
 
 /// What an IPv4 packet carries.
-#[derive(Debug, Drop, PartialEq, Eq)]
+#[derive(Clone, Copy, Debug, Drop, PartialEq, Eq)]
 pub enum IpBody<'a> {
     Udp(Udp<'a>),
     Tcp(Tcp<'a>),
@@ -69,7 +69,7 @@ pub struct Udp<'a> {
 }
 
 /// A TCP segment (RFC 793). The flags are 32 URG, 16 ACK, 8 PSH, 4 RST, 2 SYN, 1 FIN.
-#[derive(Debug, Drop, PartialEq, Eq)]
+#[derive(Clone, Copy, Debug, Drop, PartialEq, Eq)]
 pub struct Tcp<'a> {
     pub sport: u16,
     pub dport: u16,
