@@ -16,15 +16,16 @@ same_test true b h k = sym (h refl)
 same_test false true h k = k refl
 same_test false false h k = refl
 
+pub same_fail : (a b : Bool) → (a ≡ false → b ≡ false) → (b ≡ false → a ≡ false) → a ≡ b
+same_fail false b h k = sym (h refl)
+same_fail true false h k = k refl
+same_fail true true h k = refl
+
 -- what is behind k octets has fewer than m
 pub shorter-drop : (k m : ℕ) (x : List ℕ) → 1 ≤ m → is_shorter (drop k x) m ≡ is_shorter x (k + m)
 shorter-drop k m x some =
     same_test (is_shorter (drop k x) m) (is_shorter x (k + m)) (λ h. lt-ltb (length x) (k + m) (omega (arith, ltb-true (length (drop k x)) m h, length-drop k x)))
     (λ h. lt-ltb (length (drop k x)) m (omega (arith, some, ltb-true (length x) (k + m) h, length-drop k x)))
-
-pub or_false : (a b : Bool) → (a || b) ≡ false → (a ≡ false) × (b ≡ false)
-or_false true b h = cc
-or_false false b h = (refl, h)
 
 pub or_assoc : (a b c : Bool) → (a || (b || c)) ≡ ((a || b) || c)
 or_assoc true b c = refl

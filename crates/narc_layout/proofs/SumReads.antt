@@ -50,9 +50,9 @@ or_true true b h = refl
 or_true false b (inl h) = cc
 or_true false b (inr h) = h
 
-pub or_parts : (a b : Bool) → IsTrue (a || b) → (a ≡ true) ⊎ IsTrue b
-or_parts true b h = inl refl
-or_parts false b h = inr h
+pub or_cases : (a b : Bool) → IsTrue (a || b) → (a ≡ true) ⊎ IsTrue b
+or_cases true b h = inl refl
+or_cases false b h = inr h
 
 -- what is no fact is a test that fails
 fails_test : {P : Type 0} (t : Bool) → P ↔ IsTrue t → (P → ⊥) → t ≡ false
@@ -97,7 +97,7 @@ module _ {C V : Type 0} {F : Meaning C V} {Is : C → V → List ℕ → Type 0}
       let word = number_of_bits (take 16 (drop (8 * hole) b)) in
       let sum = sum_of_bits pseudo_of c b in (
         λ h. or_true (nat_eq word 0) (is_good_total sum) (elim h [ inl e ↦ inl (ap (λ n. nat_eq n 0) e) | inr g ↦ inr (good_true sum g) ]),
-        λ h. elim (or_parts (nat_eq word 0) (is_good_total sum) h) [ inl e ↦ inl (eqb-true word 0 e) | inr g ↦ inr (good_of sum g) ],
+        λ h. elim (or_cases (nat_eq word 0) (is_good_total sum) h) [ inl e ↦ inl (eqb-true word 0 e) | inr g ↦ inr (good_of sum g) ],
       )
 
   pub checked_or_none_read : IsRead (checked_or_none pseudo_of hole F) (λ c v o. Is c v o × IsTrue (is_good_or_none pseudo_of hole c o)) size

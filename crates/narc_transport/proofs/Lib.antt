@@ -3,6 +3,10 @@ pub mod UdpSound
 pub mod UdpChosen
 pub mod TcpSound
 pub mod TcpChosen
+pub mod NumberRead
 pub mod UdpRead
 pub mod UdpOctets
 pub mod UdpRows
+pub mod TcpRead
+pub mod TcpOctets
+pub mod TcpRows

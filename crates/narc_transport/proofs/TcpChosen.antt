@@ -1,11 +1,11 @@
 -- A segment with the shortest area.
 use Rattle.std.proofs.Common.{◌≡◌, ℕ, ◌+◌, ◌-◌, ◌*◌, ◌/◌, ◌%◌, ◌^◌, ◌<◌, ◌≤◌, Bool, true, false, not, ◌&&◌, List, length, IsTrue, nat_lt, refl, sym, ap, ◌∙◌, subst, arith}
 use Rattle.std.specs.Borrow.{Bor}
-use Rattle.std.proofs.lemmas.Bool.{le-ltb, lt-ltb, ltb-true}
+use Rattle.std.proofs.lemmas.Bool.{le-ltb, lt-ltb, ltb-true, ltb-false}
 use Rattle.narc_bits.specs.Octets.{IsOctets}
 use Rattle.narc_scalar.specs.Tested.{tested}
 use Rattle.narc_scalar.specs.Word.{word}
-use Rattle.narc_compose.specs.Conditions.{and_left}
+use Rattle.narc_compose.specs.Conditions.{and_left, and_right}
 use Rattle.narc_compose.specs.Gap.{gapped}
 use Rattle.narc_compose.specs.Named.{named}
 use Rattle.narc_compose.specs.Seq.{seq, seq_tail}
@@ -15,6 +15,7 @@ use Rattle.narc_sum.specs.Checked.{checked_tail}
 use Rattle.narc_options.specs.Option.{option_region}
 use Rattle.narc_options.proofs.AreaSound.{region_chosen}
 use Rattle.narc_packet.specs.declared.packet.Tcp.{Tcp}
+use Rattle.narc_layout.proofs.SameRows.{not_true}
 use Rattle.narc_transport.specs.declared.as_tcp.TcpWithOffset.{TcpWithOffset}
 use Rattle.narc_transport.specs.declared.context.Ends.{Ends}
 use Rattle.narc_transport.specs.Context.{IsThere}
@@ -26,11 +27,14 @@ and_both : (a b : Bool) → IsTrue a → IsTrue b → IsTrue (a && b)
 and_both true b h k = k
 and_both false b h k = h
 
-offset_fits : (there n : ℕ) → 5 ≤ n / 4096 → tcp_header_length n ≤ there → IsTrue (is_offset there n)
+pub offset_fits : (there n : ℕ) → 5 ≤ n / 4096 → tcp_header_length n ≤ there → IsTrue (is_offset there n)
 offset_fits there n h k = and_both (nat_lt 4 (n / 4096)) (not (nat_lt there (tcp_header_length n))) (lt-ltb 4 (n / 4096) (omega (arith, h))) (ap not (le-ltb there (tcp_header_length n) k))
 
-offset_least : (there n : ℕ) → IsTrue (is_offset there n) → 5 ≤ n / 4096
+pub offset_least : (there n : ℕ) → IsTrue (is_offset there n) → 5 ≤ n / 4096
 offset_least there n h = omega (arith, ltb-true 4 (n / 4096) (and_left (nat_lt 4 (n / 4096)) (not (nat_lt there (tcp_header_length n))) h))
+
+pub offset_most : (there n : ℕ) → IsTrue (is_offset there n) → tcp_header_length n ≤ there
+offset_most there n h = ltb-false there (tcp_header_length n) (not_true (nat_lt there (tcp_header_length n)) (and_right (nat_lt 4 (n / 4096)) (not (nat_lt there (tcp_header_length n))) h))
 
 tcp_front_admits : (n : ℕ) → n < 2 ^ 64 → (v : RawTcpFront) → IsTcpFrontInRange n v → tcp_front.admits n v
 unfolding seq named tested word

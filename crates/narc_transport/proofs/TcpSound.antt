@@ -251,7 +251,7 @@ tcp_front_ranges n v a = record {
 bits_back : (n : ℕ) → n < 2 ^ 16 → 4096 * (n / 4096 % 16) + (64 * (n / 64 % 64) + n % 64) ≡ n
 bits_back n h = omega (arith, h)
 
-front_back : (n : ℕ) (v : RawTcpFront) → IsTcpFrontInRange n v
+pub front_back : (n : ℕ) (v : RawTcpFront) → IsTcpFrontInRange n v
     → (((v.0.0.0 % 65536, v.0.0.1 % 65536), (v.0.1.0 % 4294967296, v.0.1.1 % 4294967296)), (4096 * (v.1.0 / 4096 % 16) + (64 * (v.1.0 / 64 % 64) + v.1.0 % 64), v.1.1 % 65536)) ≡ v
 front_back n v r =
     pair_eq _ v

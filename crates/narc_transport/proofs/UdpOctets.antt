@@ -10,7 +10,7 @@ use Rattle.narc_bits.proofs.Octets.{IsOctets-front, IsOctets-back}
 use Rattle.narc_bits.proofs.Spelled.{length-big_endian}
 use Rattle.narc_layout.proofs.NetworkOrder.{number_of_lt, number_of-big_endian, big_endian-number_of}
 use Rattle.narc_layout.proofs.ReadLayout.{Parts}
-use Rattle.narc_layout.proofs.SumReads.{has_no_sum, is_good_total, sum_of_octets, word_in_hole, good_behind, or_true, or_parts}
+use Rattle.narc_layout.proofs.SumReads.{has_no_sum, is_good_total, sum_of_octets, word_in_hole, good_behind, or_true, or_cases}
 use Rattle.narc_packet.specs.declared.packet.Udp.{Udp}
 use Rattle.narc_packet.specs.PacketView.{UdpView, udp_view}
 use Rattle.narc_packet.specs.Ranges.{IsIp}
@@ -66,7 +66,7 @@ checked_is : (c : Ends × ℕ) → IsEnds c.0 → (v : RawDatagram) (o surplus :
 checked_is c ok v o surplus each p n size =
     let s = split c v o each p.0 in
     let word = number_of p.0.first.back in
-    elim (or_parts (has_no_sum 6 (bits o)) (is_good_total (sum_of_octets udp_pseudo_of c o)) p.1) [
+    elim (or_cases (has_no_sum 6 (bits o)) (is_good_total (sum_of_octets udp_pseudo_of c o)) p.1) [
       | inl none ↦ inl (eqb-true word 0 (sym (no_sum_is v.0 o p.0.first.back p.0.back each p.0.first.second s.is) ∙ none))
       | inr good ↦
           let same : take n (o ++ surplus) ≡ o = take_at o surplus n size in

@@ -18,25 +18,17 @@ use Rattle.narc_layout.proofs.ViewReads.{gap_read, rename, named_read, measured_
 use Rattle.narc_transport.specs.declared.context.Ends.{Ends}
 use Rattle.narc_packet.specs.declared.packet.Udp.{Udp}
 use Rattle.narc_transport.specs.Context.{IsThere}
+use Rattle.narc_transport.proofs.NumberRead.{AreNumbers, number_rows, numbers_read}
 use Rattle.narc_transport.specs.Udp.{is_udp_length, udp_pseudo_of, RawUdpFront, RawDatagram, RawUdp, udp_of, raw_udp, SameUdp, udp_ports, udp_front, udp_payload, udp_datagram, udp_summed, udp_and_surplus, udp_format}
 
--- a number of k octets
-abbrev pub IsNumber : (k : ℕ) → ℕ → List ℕ → Type 0
-IsNumber k v o = (v < 2 ^ (8 * k)) × (o ≡ big_endian k v)
-
-pub number_read : (k : ℕ) → 1 ≤ k → k ≤ 8 → (name : ℕ) → 1 ≤ name → name ≤ 30 → IsRead (named name (word (8 * k))) (λ c v o. IsNumber k v o) (λ c x. k) (λ c start x. row name (start + 0) (is_shorter x (0 + k)) ∷ [])
-number_read k some most name low high = read_layout (named_layout (shape_word k some most) (unnamed_word k some most) name low high)
-
 abbrev pub ArePorts : ℕ × ℕ → List ℕ → Type 0
-ArePorts v = Parts (IsNumber 2 v.0) (IsNumber 2 v.1)
+ArePorts v = AreNumbers 2 v
 
 abbrev pub port_rows : (start : ℕ) → List ℕ → List Row
-port_rows start x = (row field.UDP_SOURCE (start + 0) (is_shorter x (0 + 2)) ∷ []) ++ (row field.UDP_DESTINATION (start + 2 + 0) (is_shorter (drop 2 x) (0 + 2)) ∷ [])
+port_rows start x = number_rows 2 field.UDP_SOURCE field.UDP_DESTINATION start x
 
 ports_read : IsRead udp_ports (λ c v. ArePorts v) (λ c x. 4) (λ c start x. port_rows start x)
-ports_read =
-    seq_read (λ c. c) (λ c v. c) (λ c. Unit {0}) (number_read 2 (lit≤ tt) (lit≤ tt) field.UDP_SOURCE (lit≤ tt) (lit≤ tt)) (number_read 2 (lit≤ tt) (lit≤ tt) field.UDP_DESTINATION (lit≤ tt) (lit≤ tt))
-    (λ c x. tt) (λ c v o later each is. refl)
+ports_read = numbers_read 2 (lit≤ tt) (lit≤ tt) field.UDP_SOURCE field.UDP_DESTINATION (lit≤ tt) (lit≤ tt) (lit≤ tt) (lit≤ tt)
 
 -- a length that fits the octets that are there
 abbrev pub IsLength : (there : ℕ) → ℕ → List ℕ → Type 0

@@ -1,6 +1,6 @@
 -- The rows that refuse a datagram are those of the table.
 use Rattle.std.proofs.Common.{◌≡◌, ℕ, ◌+◌, ◌*◌, ◌-◌, ◌≤◌, ◌<◌, Bool, true, false, not, ◌&&◌, ◌||◌, List, [], ◌∷◌, ◌++◌, length, take, drop, nat_eq, nat_lt, refl, sym, ap, ◌∙◌, subst, arith, length-take, length-drop}
-use Rattle.std.proofs.lemmas.Bool.{lt-ltb, le-ltb, ltb-true, ltb-false}
+use Rattle.std.proofs.lemmas.Bool.{lt-ltb, le-ltb, ltb-true, ltb-false, or_parts}
 use Rattle.std.proofs.lemmas.List.{drop-take, take-take}
 use Rattle.narc_bits.specs.Octets.{IsOctets, is_shorter, number_at, number_of}
 use Rattle.narc_bits.specs.Bits.{bits}
@@ -8,7 +8,7 @@ use Rattle.narc_bits.specs.InternetSum.{is_good_sum}
 use Rattle.narc_bits.proofs.Octets.{IsOctets-take}
 use Rattle.narc_format.specs.Rows.{Row, row, first_failing, differs}
 use Rattle.narc_format.specs.declared.field.TheConstants as field
-use Rattle.narc_layout.proofs.SameRows.{same_test, shorter-drop, or_false, not_true, or_assoc, not_and, not_or, not_not, row_same, row_passes}
+use Rattle.narc_layout.proofs.SameRows.{same_test, shorter-drop, not_true, or_assoc, not_and, not_or, not_not, row_same, row_passes}
 use Rattle.narc_layout.proofs.SumReads.{has_no_sum, is_good_total, sum_of_octets, word_in_hole, good_behind}
 use Rattle.narc_packet.specs.Udp.{udp_pseudo_header}
 use Rattle.narc_packet.specs.Refusal.{udp_rows}
@@ -43,8 +43,8 @@ sum_fails e ok d each least most =
 -- where the length is right, so many octets are there
 length_right : (d : List ℕ) (n : ℕ) → (is_shorter d 6 || nat_lt n 8 || is_shorter d n) ≡ false → (8 ≤ n) × (n ≤ length d)
 length_right d n h =
-    let fits = or_false (is_shorter d 6 || nat_lt n 8) (is_shorter d n) h in
-    (omega (arith, ltb-false n 8 (or_false (is_shorter d 6) (nat_lt n 8) fits.0).1), omega (arith, ltb-false (length d) n fits.1))
+    let fits = or_parts (is_shorter d 6 || nat_lt n 8) (is_shorter d n) h in
+    (omega (arith, ltb-false n 8 (or_parts (is_shorter d 6) (nat_lt n 8) fits.0).1), omega (arith, ltb-false (length d) n fits.1))
 
 -- behind a right length, only the checksum can fail
 sum_rows : (e : Ends) → IsEnds e → (start : ℕ) (d : List ℕ) → IsOctets d → 8 ≤ number_at d 4 2 → number_at d 4 2 ≤ length d

@@ -1,5 +1,6 @@
 pub mod Context
 pub mod Udp
 pub mod Tcp
+pub mod Segment
 pub mod Laws
 pub mod Parts
