@@ -31,7 +31,7 @@ and_both false b h k = h
 at_least : (n m : ℕ) → m ≤ n → IsTrue (not (nat_lt n m))
 at_least n m h = ap not (le-ltb n m h)
 
-total_fits : (c : ℕ × ℕ) (n : ℕ) → c.0 ≤ n → n ≤ c.1 → IsTrue (is_total_length c n)
+pub total_fits : (c : ℕ × ℕ) (n : ℕ) → c.0 ≤ n → n ≤ c.1 → IsTrue (is_total_length c n)
 total_fits c n h k = and_both (not (nat_lt n c.0)) (not (nat_lt c.1 n)) (at_least n c.0 h) (at_least c.1 n k)
 
 pub total_least : (c : ℕ × ℕ) (n : ℕ) → IsTrue (is_total_length c n) → c.0 ≤ n

@@ -326,7 +326,7 @@ low_word n h k = low n h (not_true (nat_eq (n / 32768) 1) k) where
     | inr p ↦ absurd (eqb-false (n / 32768) 1 k (omega (arith, h, p)))
   ]
 
-fragment_back : (n : ℕ) → n < 2 ^ 16 → IsTrue (is_flags tt n) → fragment_word_of (nat_eq (n / 16384 % 2) 1) (nat_eq (n / 8192 % 2) 1) (n % 8192) ≡ n
+pub fragment_back : (n : ℕ) → n < 2 ^ 16 → IsTrue (is_flags tt n) → fragment_word_of (nat_eq (n / 16384 % 2) 1) (nat_eq (n / 8192 % 2) 1) (n % 8192) ≡ n
 fragment_back n h k =
     let low = low_word n h k in
     omega (arith, low, flag_number (n / 16384 % 2) 16384 (omega arith), flag_number (n / 8192 % 2) 8192 (omega arith))

@@ -5,3 +5,5 @@ pub mod HeaderChosen
 pub mod FirstOctet
 pub mod BeforeRead
 pub mod HeaderRead
+pub mod HeaderRows
+pub mod HeaderOctets

@@ -1,3 +1,4 @@
 pub mod Option
 pub mod Header
 pub mod Laws
+pub mod HeaderOctets

@@ -1,5 +1,6 @@
 //! What is proved of the formats.
 ghost use Rattle.narc_ipv4.specs.Header.{StandsElsewhere};
+ghost use Rattle.narc_ipv4.specs.HeaderOctets.{IsItsOctets, IsRefusedByRow};
 
 use crate::header::IpHead;
 use crate::option::IpOptionFormat;
@@ -19,4 +20,15 @@ pub fn ip_head_is_sound()
 /// A header stands wherever its total length has room.
 pub fn ip_head_moves()
     ensures { StandsElsewhere ⟦<IpHead<'static> as Format<Cursor<'static>>>⟧.meaning }
+{}
+
+/// The bits that stand for a header are those of its octets, and no others, in the context of how many octets are there.
+pub fn ip_head_is_its_octets()
+    ensures { IsItsOctets ⟦<IpHead<'static> as Format<Cursor<'static>>>⟧.meaning }
+{}
+
+/// Octets behind the 14 of an Ethernet header are refused exactly where a row of IPv4 fails, with the field and the place
+/// of the first.
+pub fn ip_head_is_refused_by_row()
+    ensures { IsRefusedByRow ⟦<IpHead<'static> as Format<Cursor<'static>>>⟧.meaning }
 {}

@@ -11,5 +11,8 @@ pub use header::{
     AreaOf, Fields, InFront, IpArea, IpHead, IsFlags, IsHeaderLength, IsTotalLength, IsVersion,
     LengthsIn, OfArea,
 };
-pub use laws::{ip_head_is_sound, ip_head_moves, ip_option_format_is_sound};
+pub use laws::{
+    ip_head_is_its_octets, ip_head_is_refused_by_row, ip_head_is_sound, ip_head_moves,
+    ip_option_format_is_sound,
+};
 pub use option::{AsIpOption, IpOptionFormat};

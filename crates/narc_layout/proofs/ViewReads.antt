@@ -298,3 +298,25 @@ stripped_read see choose alike R = record {
   reads = λ c v o later each h. R.reads c h.0 o later each h.1;
   places = R.places;
 }
+
+-- octets told otherwise
+pub read_as : {C V : Type 0} {m : Meaning C V} {Is Other : C → V → List ℕ → Type 0} {size other_size : C → List ℕ → ℕ} {rows : C → (start : ℕ) → List ℕ → List Row}
+    → IsRead m Is size rows → ((c : C) (v : V) (o : List ℕ) → IsOctets o → Is c v o ↔ Other c v o)
+    → ((c : C) (v : V) (o later : List ℕ) → IsOctets (o ++ later) → Other c v o → other_size c (o ++ later) ≡ length o) → IsRead m Other other_size rows
+read_as R same reads = record {
+  stands = λ c v b. (
+    λ p. let s = (R.stands c v b).0 p in record { octets = s.octets; each = s.each; is = (same c v s.octets s.each).0 s.is; spelled = s.spelled },
+    λ s. (R.stands c v b).1 (record { octets = s.octets; each = s.each; is = (same c v s.octets s.each).1 s.is; spelled = s.spelled }),
+  );
+  refuses = R.refuses;
+  passes = λ c start x each. (
+    λ h.
+        let p = (R.passes c start x each).0 h in
+        record { found = p.found; front = p.front; later = p.later; is = (same c p.found p.front (IsOctets-front p.front p.later (subst IsOctets p.joined each))).0 p.is; joined = p.joined },
+    λ p.
+        let is = (same c p.found p.front (IsOctets-front p.front p.later (subst IsOctets p.joined each))).1 p.is in
+        (R.passes c start x each).1 (record { found = p.found; front = p.front; later = p.later; is = is; joined = p.joined }),
+  );
+  reads = reads;
+  places = R.places;
+}

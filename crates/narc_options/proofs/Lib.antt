@@ -3,3 +3,4 @@ pub mod AreaSound
 pub mod Spellings
 pub mod OptionOctets
 pub mod AreaRead
+pub mod Areas
