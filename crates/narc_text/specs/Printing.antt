@@ -1,6 +1,7 @@
 -- Printing by way of a page: what is printed is appended to the page, and the page goes to the sink when it is full.
-use Rattle.std.specs.Prelude.{◌≡◌, ℕ, List, ◌++◌, codes, Option, Result, Ok, Err}
-use Rattle.narc_packet.specs.TextWords.{mac_word}
+use Rattle.std.specs.Prelude.{◌≡◌, ℕ, List, ◌++◌, codes, decimal, Option, Result, Ok, Err}
+use Rattle.narc_packet.specs.PacketView.{Ipv4View, UdpView, TcpView}
+use Rattle.narc_packet.specs.TextWords.{mac_word, ip_word, fragment_marks, flags_word}
 use Rattle.narc_world.specs.declared.error.Failed.{Failed}
 use Rattle.narc_world.specs.Outside.{Appends}
 
@@ -20,6 +21,22 @@ pub record Stops (gathered : List ℕ) (before after : Option (List ℕ)) : Type
 -- the words that each packet's text begins with
 abbrev pub addresses : (dst src : List ℕ) → List ℕ
 addresses dst src = codes "eth " ++ mac_word dst ++ codes " " ++ mac_word src
+
+-- an IPv4 header before its options
+abbrev pub ipv4_front : Ipv4View → List ℕ
+ipv4_front p =
+    codes " ip4 " ++ decimal p.tos ++ codes " " ++ decimal p.id ++ codes " " ++ fragment_marks p.df p.mf ++ codes " "
+    ++ decimal p.offset ++ codes " " ++ decimal p.ttl ++ codes " " ++ ip_word p.src ++ codes " " ++ ip_word p.dst ++ codes " "
+
+-- a UDP header
+abbrev pub udp_front : UdpView → List ℕ
+udp_front u = codes " udp " ++ decimal u.sport ++ codes " " ++ decimal u.dport ++ codes " "
+
+-- a TCP header before its options
+abbrev pub tcp_front : TcpView → List ℕ
+tcp_front t =
+    codes " tcp " ++ decimal t.sport ++ codes " " ++ decimal t.dport ++ codes " " ++ decimal t.seq ++ codes " " ++ decimal t.ack ++ codes " "
+    ++ decimal t.reserved ++ codes " " ++ flags_word t.flags ++ codes " " ++ decimal t.window ++ codes " " ++ decimal t.urgent ++ codes " "
 
 -- a page, and these octets behind it, are gathered
 abbrev pub IsPrinted : Result Unit Failed → (octets page page_after : List ℕ) → (before after : Option (List ℕ)) → Type 0

@@ -19,7 +19,7 @@ loop-rest-preserved g c =
     let piece = c.split_at.result.0.now in
     let start = c.args.page.now in
     let before = g.K.Sink.held c.args.sink.now in
-    let now = g.K.Sink.held c.make_room-in-loop-rest.new.sink in
+    let now = g.K.Sink.held c.make_room.new.sink in
     let middle = c.min.result in
     let rest = c.loop-rest.rest.now in
     let later = c.split_at.result.1.now in
@@ -31,18 +31,18 @@ loop-rest-preserved g c =
       };
       printed = subst (λ l. Passes (start ++ l) c.put_digits.new.page before now) (sym (encode_lower-append so_far.done.front piece))
           (Passes-then (encode_lower so_far.done.front) (encode_lower piece) start c.loop-rest.page c.put_digits.new.page before (g.K.Sink.held c.loop-rest.sink) now so_far.printed
-          (Passes-room (encode_lower piece) c.loop-rest.page c.make_room-in-loop-rest.new.self c.put_digits.new.page (g.K.Sink.held c.loop-rest.sink) now c.in_ok-make_room-2.ensures.printed c.put_digits.ensures.value));
-      later = omega (arith, so_far.later, c.in_ok-make_room-2.ensures.later);
+          (Passes-room (encode_lower piece) c.loop-rest.page c.make_room.new.self c.put_digits.new.page (g.K.Sink.held c.loop-rest.sink) now c.in_ok-make_room.ensures.printed c.put_digits.ensures.value));
+      later = omega (arith, so_far.later, c.in_ok-make_room.ensures.later);
     }
 
-pub returns-in_err-make_room-2-clause-printed : goal.returns-in_err-make_room-2-clause-printed
-returns-in_err-make_room-2-clause-printed g c =
+pub returns-in_err-make_room-clause-printed : goal.returns-in_err-make_room-clause-printed
+returns-in_err-make_room-clause-printed g c =
     let so_far = c.loop-rest.invariant in
     let rest = c.loop-rest.rest.now in
     let before = g.K.Sink.held c.args.sink.now in
     let middle = g.K.Sink.held c.loop-rest.sink in
-    let now = g.K.Sink.held c.make_room-in-loop-rest.new.sink in
+    let now = g.K.Sink.held c.make_room.new.sink in
     let stopped = Stops-then (encode_lower so_far.done.front) (encode_lower rest) c.args.page.now c.loop-rest.page before middle now so_far.printed
-    (Stops-more [] (encode_lower rest) c.loop-rest.page middle now c.in_err-make_room-2.ensures.printed) in
-    IsPrinted-failed (hex_word c.args.octets.now) c.args.page.now c.make_room-in-loop-rest.new.self before now c.from_residual-in_err-make_room-2.result c.from_residual-in_err-make_room-2.ensures.0
+    (Stops-more [] (encode_lower rest) c.loop-rest.page middle now c.in_err-make_room.ensures.printed) in
+    IsPrinted-failed (hex_word c.args.octets.now) c.args.page.now c.make_room.new.self before now c.from_residual.result c.from_residual.ensures.0
     (subst (λ l. Stops (c.args.page.now ++ l) before now) (sym (hex_word-split c.args.octets.now so_far.done.front rest (is_some (length c.args.octets.now) c.is_empty.result c.is_empty.ensures c.if-is_empty.false) so_far.done.joined)) stopped)
