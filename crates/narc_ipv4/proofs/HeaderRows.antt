@@ -1,13 +1,13 @@
 -- The rows that refuse a header are those of the table.
 use Rattle.std.proofs.Common.{◌≡◌, ℕ, ◌+◌, ◌*◌, ◌-◌, ◌/◌, ◌%◌, ◌^◌, ◌≤◌, ◌<◌, Bool, true, false, not, ◌&&◌, ◌||◌, List, [], ◌∷◌, ◌++◌, length, take, drop, nat_eq, nat_lt, Option, Some, None, refl, sym, ap, ◌∙◌, arith, length-take, length-drop}
 use Rattle.std.specs.Prelude.{is_some, unwrap_or}
-use Rattle.std.proofs.lemmas.Bool.{le-ltb, ltb-false}
+use Rattle.std.proofs.lemmas.Bool.{le-ltb, ltb-false, or_parts}
 use Rattle.std.proofs.lemmas.List.{drop-drop}
 use Rattle.narc_bits.specs.Octets.{is_shorter, number_at, number_of}
 use Rattle.narc_bits.specs.InternetSum.{is_good_sum}
 use Rattle.narc_format.specs.Rows.{Row, row, first_failing, differs}
 use Rattle.narc_format.specs.declared.field.TheConstants as field
-use Rattle.narc_layout.proofs.SameRows.{shorter-drop, or_false, or_assoc, not_and, not_not, row_same, row_passes}
+use Rattle.narc_layout.proofs.SameRows.{shorter-drop, or_assoc, not_and, not_not, row_same, row_passes}
 use Rattle.narc_packet.specs.Options.{bad_option}
 use Rattle.narc_packet.specs.Refusal.{header_length, total_length, area_in, options_row}
 use Rattle.narc_ipv4.specs.Header.{is_header_length, is_total_length, is_flags, header_length_of}
@@ -32,12 +32,12 @@ record Fits (x : List ℕ) : Type 0 where
 
 fits_of : (x : List ℕ) → nat_lt (number_at x 0 1 % 16) 5 ≡ false → (is_shorter x 4 || nat_lt (total_length x) (header_length x) || is_shorter x (total_length x)) ≡ false → Fits x
 fits_of x five h =
-    let there = or_false (is_shorter x 4 || nat_lt (total_length x) (header_length x)) (is_shorter x (total_length x)) h in
+    let there = or_parts (is_shorter x 4 || nat_lt (total_length x) (header_length x)) (is_shorter x (total_length x)) h in
     let least = ltb-false (number_at x 0 1 % 16) 5 five in
     record {
       least = omega (arith, least);
       most = omega arith;
-      size = omega (arith, ltb-false (total_length x) (header_length x) (or_false (is_shorter x 4) (nat_lt (total_length x) (header_length x)) there.0).1, ltb-false (length x) (total_length x) there.1);
+      size = omega (arith, ltb-false (total_length x) (header_length x) (or_parts (is_shorter x 4) (nat_lt (total_length x) (header_length x)) there.0).1, ltb-false (length x) (total_length x) there.1);
     }
 
 enough : (k m : ℕ) (x : List ℕ) → k + m ≤ length x → is_shorter (drop k x) m ≡ false
