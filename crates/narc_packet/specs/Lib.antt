@@ -5,6 +5,7 @@ pub mod Udp
 pub mod Tcp
 pub mod Ipv4
 pub mod Frame
+pub mod Canonical
 pub mod Refusal
 pub mod Answer
 pub mod TextWords

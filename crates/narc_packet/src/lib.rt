@@ -11,3 +11,6 @@ pub use option_list::{IpOptionList, OptionError, TcpOptionList};
 pub use options::{IpOption, IpOptionIter, IpOptions, TcpOption, TcpOptionIter, TcpOptions};
 pub use packet::{Arp, EthBody, IpBody, Ipv4, Packet, Tcp, Udp};
 pub use well_formed::is_well_formed;
+
+#[cfg(test)]
+mod tests;

@@ -1,0 +1,118 @@
+//! Options one by one, and packets at the edge of what has a frame.
+use super::{
+    EthBody, IpBody, IpOption, IpOptionList, IpOptions, Ipv4, OptionError, Packet, TcpOption,
+    TcpOptionList, TcpOptions, is_well_formed,
+};
+use std::test::Fail;
+
+fn ipv4(mf: bool, body: IpBody<'_>) -> Packet<'_> {
+    Packet {
+        dst: [2, 0, 0, 0, 0, 0xaa],
+        src: [2, 0, 0, 0, 0, 0xbb],
+        body: EthBody::Ip(Ipv4 {
+            tos: 0,
+            id: 0,
+            df: false,
+            mf,
+            offset: 0,
+            ttl: 64,
+            src: [10, 0, 0, 1],
+            dst: [10, 0, 0, 2],
+            options: IpOptions::none(),
+            body,
+        }),
+    }
+}
+
+#[test]
+fn options_of_ipv4_are_listed_in_order(rt: HostRuntime) {
+    let mut options = IpOptions {
+        spelled: &[1, 68, 3, 9],
+    }
+    .iter();
+    assert!(rt; options.next() == Some(IpOption::Nop));
+    let Some(IpOption::Other { kind, data }) = options.next() else {
+        panic!(rt; "the second option has data");
+    };
+    assert!(rt; kind == 68 && data == [9].as_slice());
+    assert!(rt; options.next().is_none());
+}
+
+#[test]
+fn options_of_tcp_are_listed_in_order(rt: HostRuntime) {
+    let mut options = TcpOptions {
+        spelled: &[2, 4, 5, 180, 2, 3, 9, 0, 1],
+    }
+    .iter();
+    assert!(rt; options.next() == Some(TcpOption::Mss(1460)));
+    let Some(TcpOption::Other { kind, data }) = options.next() else {
+        panic!(rt; "one octet of data is no size");
+    };
+    assert!(rt; kind == 2 && data == [9].as_slice());
+    assert!(rt; options.next().is_none());
+}
+
+#[test]
+fn a_list_takes_forty_octets_of_options(rt: HostRuntime) {
+    let mut list = IpOptionList::new();
+    assert!(rt; list.push(IpOption::Other { kind: 1, data: &[] }) == Err(OptionError::NoSpelling));
+    let long = [0; 39];
+    assert!(rt;
+        list.push(IpOption::Other {
+            kind: 7,
+            data: &long
+        }) == Err(OptionError::NoSpelling)
+    );
+    assert!(rt;
+        list.push(IpOption::Other {
+            kind: 7,
+            data: &long[..37]
+        }) == Ok(())
+    );
+    assert!(rt; list.push(IpOption::Nop) == Ok(()));
+    assert!(rt; list.push(IpOption::Nop) == Err(OptionError::NoRoom));
+    assert_eq!(rt; list.as_options().spelled.len(), 40);
+    assert_eq!(rt; list.as_options().to_list().len(), 2);
+}
+
+#[test]
+fn a_size_is_no_other_option(rt: HostRuntime) {
+    let mut list = TcpOptionList::new();
+    assert!(rt;
+        list.push(TcpOption::Other {
+            kind: 2,
+            data: &[5, 180]
+        }) == Err(OptionError::NoSpelling)
+    );
+    assert!(rt; list.push(TcpOption::Mss(1460)) == Ok(()));
+    assert!(rt; list.as_options().spelled == [2, 4, 5, 180].as_slice());
+}
+
+#[test]
+fn raw_data_of_udp_stands_in_a_fragment_alone(rt: HostRuntime) {
+    let raw = IpBody::Raw {
+        protocol: 17,
+        payload: &[],
+    };
+    assert!(rt; !is_well_formed(&ipv4(false, raw)));
+    let raw = IpBody::Raw {
+        protocol: 17,
+        payload: &[],
+    };
+    assert!(rt; is_well_formed(&ipv4(true, raw)));
+}
+
+#[test]
+fn the_longest_packet_has_65515_octets_of_data(rt: HostRuntime) {
+    let octets = [0; 65_516];
+    let raw = IpBody::Raw {
+        protocol: 253,
+        payload: &octets,
+    };
+    assert!(rt; !is_well_formed(&ipv4(false, raw)));
+    let raw = IpBody::Raw {
+        protocol: 253,
+        payload: &octets[1..],
+    };
+    assert!(rt; is_well_formed(&ipv4(false, raw)));
+}
