@@ -125,6 +125,15 @@ cuts big zero place (o ∷ octets) h =
     subst (λ n. IsCutBy big n (o ∷ octets) (cut big 0 place (o ∷ octets))) same
     (cuts_at big place o octets (λ behind within. cuts big behind (suc place) octets within) (front big place (o ∷ octets)) refl)
 
+-- the records of octets, and a rest behind them
+pub cut_records : (big : Bool) (place : ℕ) (s : List ℕ) → (rest : List ℕ) × AreRecords big place (cut big 0 place s).entries s rest
+cut_records big place s =
+    let none : 0 ≤ length s = omega arith in
+    let same : place + 0 ≡ place = omega arith in
+    let c = cut big 0 place s in
+    let found : IsCutBy big place s c = subst (λ n. IsCutBy big n s c) same (cuts big 0 place s none) in
+    (found.rest, found.records)
+
 -- octets that are cut so are these records and this end
 recut_none : (big : Bool) (place : ℕ) (s : List ℕ) (end : End) → BeginsNoRecord big place s → end_with big place s ≡ end → cut big 0 place s ≡ ends end
 recut_none big place s end stops is = at (front big place s) refl where
