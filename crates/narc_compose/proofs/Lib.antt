@@ -1,3 +1,4 @@
 pub mod Sequences
 pub mod Measures
 pub mod Gaps
+pub mod Tried

@@ -1,5 +1,6 @@
 -- A format whose unnamed faults get a field.
 use Rattle.std.specs.Prelude.{ℕ, ◌≤◌}
+use Rattle.narc_format.specs.declared.field.TheConstants.{COUNT}
 use Rattle.narc_format.specs.Faults.{named_by}
 use Rattle.narc_format.specs.Meaning.{Meaning}
 use Rattle.narc_compose.specs.Changed.{Changed}
@@ -8,7 +9,7 @@ use Rattle.narc_compose.specs.Changed.{Changed}
 pub record NamedSound (part : Type 0) (field : ℕ) : Type 0 where
   pub part_sound : part
   pub some : 1 ≤ field
-  pub known : field ≤ 30
+  pub known : field ≤ COUNT
 
 -- F, with this field for its unnamed faults
 unfoldable pub named : {C V : Type 0} → (field : ℕ) → Meaning C V → Meaning C V

@@ -2,4 +2,5 @@ pub mod Takes
 pub mod Formats
 pub mod Tails
 pub mod Reading
+pub mod Fronts
 pub mod Widths

@@ -1,7 +1,7 @@
 -- Formats whose spellings all have one width.
-use Rattle.std.proofs.Common.{◌≡◌, ℕ, ◌<◌, Bool, List, length, ap, arith, inl, inr, length-append}
+use Rattle.std.proofs.Common.{◌≡◌, ℕ, Bool, List, length, ap, arith, inl, inr, length-append}
 use Rattle.narc_format.specs.Meaning.{Meaning}
-use Rattle.narc_format.specs.Laws.{Laws, Fits, IsRefused}
+use Rattle.narc_format.specs.Laws.{Laws}
 use Rattle.narc_format.specs.Widths.{IsWide}
 
 -- fewer bits have no front that stands for a value, so they are refused

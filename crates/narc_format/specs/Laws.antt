@@ -1,11 +1,12 @@
 -- What each format and each tail promises of its meaning, where the conditions of its rules hold.
 use Rattle.std.specs.Prelude.{◌≡◌, ◌*◌, ◌%◌, ◌≤◌, ◌⊎◌, Bool, true, List, ◌++◌, length, IsTrue}
+use Rattle.narc_bits.specs.declared.limits.TheConstants.{MAX_FRAME}
 use Rattle.narc_format.specs.declared.fault.Fault.{Fault}
 use Rattle.narc_format.specs.Meaning.{Meaning}
 
 -- at most the bits of a frame, and whole octets where that is asked
 pub record Fits (aligned : Bool) (b : List Bool) : Type 0 where
-  pub small : length b ≤ 8 * 262144
+  pub small : length b ≤ 8 * MAX_FRAME
   pub octets : IsTrue aligned → length b % 8 ≡ 0
 
 -- a front of the bits stands for some value

@@ -7,3 +7,4 @@ pub mod Widths
 pub mod Holes
 pub mod Exactness
 pub mod Rows
+pub mod Answer

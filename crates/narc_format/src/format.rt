@@ -6,7 +6,7 @@ ghost use Rattle.narc_format.specs.Reading.{Took, Refused};
 ghost use Rattle.narc_format.specs.Laws.{Laws};
 
 use crate::fault::Fault;
-use narc_bits::{Input, Steps, Writer};
+use narc_bits::{Input, MAX_FRAME, Steps, Writer};
 use std::sync::ledger::Ledger;
 
 /// A relation between values and lists of bits, with its reader and its writer.
@@ -34,14 +34,14 @@ pub trait Format<I: Input> {
     fn size(ctx: Self::Ctx, value: &Self::Value) -> usize
         requires sound { meaning.sound }
         requires admitted { meaning.admits ctx value.now }
-        requires small { length (meaning.spelling ctx value.now) ≤ 8 * 262144 }
+        requires small { length (meaning.spelling ctx value.now) ≤ 8 * MAX_FRAME }
         ensures { result ≡ length (meaning.spelling ctx value.now) };
 
     /// Puts the spelling into the room at the writer's place, and moves past it.
     fn write(ctx: Self::Ctx, value: &Self::Value, room: &mut [u8], writer: &mut Writer)
         requires sound { meaning.sound }
         requires admitted { meaning.admits ctx value.now }
-        requires small { length room.old ≤ 262144 }
+        requires small { length room.old ≤ MAX_FRAME }
         requires enough { writer.old + length (meaning.spelling ctx value.now) ≤ 8 * length room.old }
         requires aligned { IsTrue meaning.aligned → writer.old % 8 ≡ 0 }
         ensures len { length room.new ≡ length room.old }

@@ -4,16 +4,16 @@ ghost use Rattle.narc_format.specs.Holes.{IsHoled};
 
 use crate::format::Format;
 use crate::tail::Tail;
-use narc_bits::Input;
+use narc_bits::{Input, MAX_FRAME};
 
-/// A format in which any 16 bits at one octet keep the value.
+/// A format in which any 16 bits at one octet keep the value, as those of a checksum that is judged elsewhere.
 pub trait Holed<I: Input>: Format<I> {
     ghost hole_of: { ℕ };
 
     /// That octet, from the format's first.
     fn hole() -> usize
         requires sound { Self.meaning.sound }
-        requires small { hole_of + 2 ≤ 262144 }
+        requires small { hole_of + 2 ≤ MAX_FRAME }
         ensures { result ≡ hole_of };
 
     ghost holed: { IsHoled Self.meaning hole_of };
@@ -26,7 +26,7 @@ pub trait HoledTail<I: Input>: Tail<I> {
     /// That octet, from the tail's first.
     fn hole() -> usize
         requires sound { Self.meaning.sound }
-        requires small { hole_of + 2 ≤ 262144 }
+        requires small { hole_of + 2 ≤ MAX_FRAME }
         ensures { result ≡ hole_of };
 
     ghost holed: { IsHoled Self.meaning hole_of };

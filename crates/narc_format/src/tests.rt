@@ -1,6 +1,7 @@
 //! Fields and faults by example.
-use crate::field::{IPV4_CHECKSUM, IPV4_OPTIONS};
+use crate::field::{ARP_OPERATION, IPV4_CHECKSUM, IPV4_OPTIONS};
 use crate::{Fault, Field};
+use std::test::Fail;
 
 #[test]
 fn a_field_has_its_number_and_name(rt: HostRuntime) {
@@ -40,4 +41,15 @@ fn a_fault_of_a_part_gets_its_place_and_its_field_once(rt: HostRuntime) {
     );
     assert_eq!(rt; named.at_start().at, 0);
     assert_eq!(rt; named.at_start().field, options);
+}
+
+#[test]
+fn a_fault_is_printed_with_its_field_and_its_place(rt: HostRuntime) -> Result<(), Fail> {
+    let operation = Field::of(ARP_OPERATION).ok_or("the operation of ARP is a field")?;
+    let fault = Fault::unnamed().later_by(48).named(operation);
+    assert_eq!(rt;
+        format!(in rt.alloc(); "{fault}")?.as_str(),
+        "arp.operation at bit 48"
+    );
+    Ok(())
 }

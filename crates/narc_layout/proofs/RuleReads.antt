@@ -12,11 +12,10 @@ use Rattle.narc_bits.proofs.Spelled.{bits_same, bits-octets_of_bits, IsOctets-oc
 use Rattle.narc_format.specs.Faults.{fault_at, unnamed_fault}
 use Rattle.narc_format.specs.declared.fault.Fault.{Fault}
 use Rattle.narc_format.specs.Meaning.{Meaning}
-use Rattle.narc_bits.specs.InternetSum.{total, IsGoodTotal}
+use Rattle.narc_bits.specs.InternetSum.{total, is_good_sum, IsGoodTotal}
 use Rattle.narc_bits.proofs.Sums.{total-append}
 use Rattle.narc_list.specs.Region.{region}
 use Rattle.narc_sum.specs.Checked.{checked}
-use Rattle.narc_bits.specs.InternetSum.{is_good_sum}
 use Rattle.narc_format.specs.Rows.{Row, RefusalView, row, first_failing}
 use Rattle.narc_layout.specs.FirstFault.{IsFirstFault}
 use Rattle.narc_layout.proofs.Rows.{Fails, told, judged, first_failing-front, first_failing-back, first_failing-none}
@@ -186,19 +185,6 @@ module _ {C V : Type 0} {F : Meaning C V} {Is : C → V → List ℕ → Type 0}
     ];
   }
 
--- a good total, as a test
-pub good_true : (n : ℕ) → IsGoodTotal n → IsTrue (nat_lt 0 n && nat_eq (n % 65535) 0)
-good_true n g = both_true (nat_lt 0 n) (nat_eq (n % 65535) 0) (lt-ltb 0 n g.some) (eq_true (n % 65535) g.multiple) where
-  both_true : (a b : Bool) → a ≡ true → b ≡ true → IsTrue (a && b)
-  both_true true b h k = k
-  both_true false b h k = cc
-
-  eq_true : (k : ℕ) → k ≡ 0 → nat_eq k 0 ≡ true
-  eq_true k h = ap (λ a. nat_eq a 0) h
-
-pub good_of : (n : ℕ) → IsTrue (nat_lt 0 n && nat_eq (n % 65535) 0) → IsGoodTotal n
-good_of n h = record { some = ltb-true 0 n (and_left (nat_lt 0 n) (nat_eq (n % 65535) 0) h); multiple = eqb-true (n % 65535) 0 (and_right (nat_lt 0 n) (nat_eq (n % 65535) 0) h) }
-
 -- the Internet sum, behind a pseudo header of an even number of octets
 module _ {C V : Type 0} {F : Meaning C V} {Is : C → V → List ℕ → Type 0} {size : C → List ℕ → ℕ} {rows : C → (start : ℕ) → List ℕ → List Row}
     (header_of : C → ℕ → List ℕ) (even : (c : C) (n : ℕ) → length (header_of c n) % 2 ≡ 0) (hole : ℕ) (R : IsRead F Is size rows) where
@@ -219,8 +205,8 @@ module _ {C V : Type 0} {F : Meaning C V} {Is : C → V → List ℕ → Type 0}
 
   rule_good : (c : C) (b : List Bool) → IsGoodTotal (total (header_of c (length b / 8)) + total (octets_of_bits (length b / 8) b)) ↔ IsTrue (is_good c b)
   rule_good c b = (
-    λ g. good_true (total (summed header_of hole F c b)) (subst IsGoodTotal (sym (sum_is c b)) g),
-    λ h. subst IsGoodTotal (sum_is c b) (good_of (total (summed header_of hole F c b)) h),
+    λ g. subst IsGoodTotal (sym (sum_is c b)) g,
+    λ h. subst IsGoodTotal (sum_is c b) h,
   )
 
   not_good : (c : C) (b : List Bool) (t : Bool) → is_good c b ≡ t → (IsGoodTotal (total (header_of c (length b / 8)) + total (octets_of_bits (length b / 8) b)) → ⊥) → t ≡ false

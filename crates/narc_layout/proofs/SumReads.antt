@@ -3,7 +3,7 @@ use Rattle.std.proofs.Common.{◌≡◌, ℕ, ◌+◌, ◌*◌, ◌-◌, ◌/◌
 use Rattle.std.proofs.lemmas.Bool.{and_parts, and_from, ltb-true, lt-ltb, eqb-true}
 use Rattle.narc_bits.specs.Octets.{IsOctets, number_of, number_at}
 use Rattle.narc_bits.specs.Bits.{bits, bits_of_number, number_of_bits, octets_of_bits}
-use Rattle.narc_bits.specs.InternetSum.{total, IsGoodTotal, is_good_sum}
+use Rattle.narc_bits.specs.InternetSum.{total, is_good_total, IsGoodTotal, is_good_sum}
 use Rattle.narc_bits.proofs.Numbers.{length-bits, number_of_bits-bits_of_number_lt}
 use Rattle.narc_bits.proofs.Octets.{IsOctets-take, IsOctets-drop}
 use Rattle.narc_bits.proofs.Scans.{bits-take, bits-drop}
@@ -18,12 +18,8 @@ use Rattle.narc_layout.specs.FirstFault.{IsFirstFault}
 use Rattle.narc_layout.proofs.NetworkOrder.{number_of_lt, bits-number_of}
 use Rattle.narc_layout.proofs.Rows.{Fails, told, judged, first_failing-front, first_failing-back, first_failing-none}
 use Rattle.narc_layout.proofs.ReadLayout.{Spelled, IsRead, IsTailRead}
-use Rattle.narc_layout.proofs.RuleReads.{one_more, none_more, one_fails, fails_one, sealed_read, good_true, good_of, is_not, is_right, not_bad}
+use Rattle.narc_layout.proofs.RuleReads.{one_more, none_more, one_fails, fails_one, sealed_read, is_not, is_right, not_bad}
 use Rattle.narc_layout.proofs.TestRead.{octets_again}
-
--- a good total, as a test
-abbrev pub is_good_total : ℕ → Bool
-is_good_total n = nat_lt 0 n && nat_eq (n % 65535) 0
 
 -- the sum behind a pseudo header of an even number of octets
 pub good_behind : (p o : List ℕ) → length p % 2 ≡ 0 → is_good_total (total p + total o) ≡ is_good_sum (p ++ o)
@@ -96,8 +92,8 @@ module _ {C V : Type 0} {F : Meaning C V} {Is : C → V → List ℕ → Type 0}
   rule_accepts c b =
       let word = number_of_bits (take 16 (drop (8 * hole) b)) in
       let sum = sum_of_bits pseudo_of c b in (
-        λ h. or_true (nat_eq word 0) (is_good_total sum) (elim h [ inl e ↦ inl (ap (λ n. nat_eq n 0) e) | inr g ↦ inr (good_true sum g) ]),
-        λ h. elim (or_cases (nat_eq word 0) (is_good_total sum) h) [ inl e ↦ inl (eqb-true word 0 e) | inr g ↦ inr (good_of sum g) ],
+        λ h. or_true (nat_eq word 0) (is_good_total sum) (elim h [ inl e ↦ inl (ap (λ n. nat_eq n 0) e) | inr g ↦ inr g ]),
+        λ h. elim (or_cases (nat_eq word 0) (is_good_total sum) h) [ inl e ↦ inl (eqb-true word 0 e) | inr g ↦ inr g ],
       )
 
   pub checked_or_none_read : IsRead (checked_or_none pseudo_of hole F) (λ c v o. Is c v o × IsTrue (is_good_or_none pseudo_of hole c o)) size
@@ -128,12 +124,12 @@ module _ {C V : Type 0} {F : Meaning C V} {Is : C → V → List ℕ → Type 0}
   to_octets : (c : C) (o : List ℕ) → IsOctets o → length (bits o) ≤ 8 * 65535 → IsGoodTotal (sum_of_bits pseudo_of c (bits o)) → good c o ≡ true
   to_octets c o each short g =
       and_from (nat_lt (length o) 65536) (is_good_total (sum_of_octets pseudo_of c o)) (lt-ltb (length o) 65536 (omega (arith, short, length-bits o)))
-      (ap is_good_total (sym (sum_again pseudo_of c o each)) ∙ good_true (sum_of_bits pseudo_of c (bits o)) g)
+      (ap is_good_total (sym (sum_again pseudo_of c o each)) ∙ g)
 
   to_bits : (c : C) (o : List ℕ) → IsOctets o → good c o ≡ true → (length (bits o) ≤ 8 * 65535) × IsGoodTotal (sum_of_bits pseudo_of c (bits o))
   to_bits c o each h =
       let p = and_parts (nat_lt (length o) 65536) (is_good_total (sum_of_octets pseudo_of c o)) h in
-      (omega (arith, ltb-true (length o) 65536 p.0, length-bits o), good_of (sum_of_bits pseudo_of c (bits o)) (ap is_good_total (sum_again pseudo_of c o each) ∙ p.1))
+      (omega (arith, ltb-true (length o) 65536 p.0, length-bits o), ap is_good_total (sum_again pseudo_of c o each) ∙ p.1)
 
   sum_fails : (a : Bool) → (a ≡ true → ⊥) → not a ≡ true
   sum_fails true h = absurd (h refl)

@@ -4,7 +4,7 @@ ghost use Rattle.narc_bits.specs.Bits.{bits, overlay};
 ghost use Rattle.narc_list.specs.Pad.{padding};
 ghost use Rattle.narc_list.specs.PadLaws.{padding_laws};
 
-use narc_bits::{Cursor, Steps, Writer};
+use narc_bits::{Cursor, MAX_FRAME, Steps, Writer};
 use narc_format::{Fault, Tail};
 use std::sync::ledger::Ledger;
 
@@ -36,7 +36,7 @@ impl<'a> Tail<Cursor<'a>> for Pad {
     // A method that does not name the cursor's lifetime gets no clauses from the trait: they stand here.
     #[tactic(auto, unfolding(crate::specs::Pad::padding))]
     fn size(ctx: usize, _value: &()) -> usize
-        requires small { length (padding.spelling ctx tt) ≤ 8 * 262144 }
+        requires small { length (padding.spelling ctx tt) ≤ 8 * MAX_FRAME }
         ensures { result ≡ length (padding.spelling ctx tt) }
     {
         8 * ctx
@@ -44,7 +44,7 @@ impl<'a> Tail<Cursor<'a>> for Pad {
 
     #[tactic(auto, unfolding(crate::specs::Pad::padding))]
     fn write(ctx: usize, _value: &(), room: &mut [u8], writer: &mut Writer)
-        requires small { length room.old ≤ 262144 }
+        requires small { length room.old ≤ MAX_FRAME }
         requires enough { writer.old + length (padding.spelling ctx tt) ≤ 8 * length room.old }
         requires aligned { writer.old % 8 ≡ 0 }
         ensures len { length room.new ≡ length room.old }

@@ -2,7 +2,7 @@
 use Rattle.std.specs.Prelude.{◌≡◌, ℕ, ◌+◌, ◌≤◌, ◌<◌, ◌^◌, Bool, true, false, List, [], ◌∷◌, ◌++◌, codes, length, take, drop, replicate, refl}
 use Rattle.std.proofs.Common.{lit<, lit≤, inl, inr, arith}
 use Rattle.narc_bits.specs.Octets.{IsOctets}
-use Rattle.narc_bits.specs.InternetSum.{total, IsGoodSum}
+use Rattle.narc_bits.specs.InternetSum.{total, folded, IsGoodSum}
 use Rattle.narc_packet.specs.Options.{IpOptionView, IpNop, IpOther, TcpOptionView, TcpNop, TcpMss, TcpOther, IsIpArea, IsTcpArea}
 use Rattle.narc_packet.specs.PacketView.{PacketView, EthBodyView, ArpBody, Ipv4Body, OtherBody, Ipv4View, IpBodyView, UdpBody, TcpBody, RawBody, UdpView, TcpView}
 use Rattle.narc_packet.specs.Udp.{IsUdp}
@@ -238,32 +238,32 @@ canonical_frame-ethernet : (canonical_frame other_packet ≡ other_frame) × (ca
 canonical_frame-ethernet = (refl, refl)
 
 canonical_frame-udp : canonical_frame (packet (Ipv4Body (ipv4 0 false false [] (UdpBody (datagram 1 []))))) ≡ udp_frame ++ replicate 18 0
-unfolding total
+unfolding total folded
 canonical_frame-udp = refl
 
 -- a UDP checksum that computes to 0 is all ones
 canonical_frame-ones : canonical_frame (packet (Ipv4Body (ipv4 0 false false [] (UdpBody (datagram 60377 []))))) ≡ ones_udp_frame ++ replicate 18 0
-unfolding total
+unfolding total folded
 canonical_frame-ones = refl
 
 canonical_frame-option : canonical_frame (packet (Ipv4Body (ipv4 0 false false (IpOther 148 (0 ∷ 0 ∷ []) ∷ []) (UdpBody (datagram 1 []))))) ≡ option_frame ++ replicate 14 0
-unfolding total
+unfolding total folded
 canonical_frame-option = refl
 
 canonical_frame-fragment : canonical_frame (packet (Ipv4Body (ipv4 0 false true [] (RawBody 17 udp_content)))) ≡ fragment_frame ++ replicate 18 0
-unfolding total
+unfolding total folded
 canonical_frame-fragment = refl
 
 canonical_frame-tcp : canonical_frame (packet (Ipv4Body (ipv4 0 false false [] (TcpBody (request (TcpMss 1460 ∷ [])))))) ≡ tcp_frame
-unfolding total
+unfolding total folded
 canonical_frame-tcp = refl
 
 canonical_frame-request : canonical_frame (packet (Ipv4Body (ipv4 0 true false [] (TcpBody (request request_options))))) ≡ request_frame
-unfolding total
+unfolding total folded
 canonical_frame-request = refl
 
 canonical_frame-odd : canonical_frame (packet (Ipv4Body (ipv4 0 false false [] (UdpBody (datagram 1 (255 ∷ [])))))) ≡ odd_frame ++ replicate 17 0
-unfolding total
+unfolding total folded
 canonical_frame-odd = refl
 
 -- raw data with protocol 17 is well formed in a fragment alone

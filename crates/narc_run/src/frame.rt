@@ -14,7 +14,7 @@ use narc_bits::{MAX_FRAME, Steps};
 use narc_packet::Packet;
 use narc_stack::{Refusal, decode_frame, unbuilt};
 use narc_text::{Page, print_packet, put_decimal};
-use narc_world::{Failed, Sink, Source};
+use narc_world::{FRAME_BUFFER, Failed, Sink, Source};
 use std::sync::ledger::Ledger;
 
 /// More octets than the line of a refusal has.
@@ -107,7 +107,7 @@ pub(crate) fn run_frame<S: Source, K: Sink, L: Ledger>(
     sink: &mut K,
     steps: &mut Steps<L>,
 ) -> Outcome
-    requires { length buffer.old ≡ 262145 }
+    requires { length buffer.old ≡ FRAME_BUFFER }
     ensures run { FrameRun (S.left source.old) (S.left source.new) (K.held sink.old) (K.held sink.new) steps.old steps.new result.status result.at }
     ensures status { result.status ≤ 6 }
     ensures source_later { S.faults source.old ≤ S.faults source.new }

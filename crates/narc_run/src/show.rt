@@ -12,7 +12,7 @@ use crate::entry::{answer_record, print_record};
 use crate::outcome::Outcome;
 use crate::tally::Tally;
 use narc_bits::Steps;
-use narc_pcap::{End, Header, Next, Reader, Started, Unit};
+use narc_pcap::{End, Header, LONGEST_RECORD, Next, Reader, Started, Unit};
 use narc_text::{Page, put_decimal};
 use narc_world::{Failed, Sink, Source};
 use std::sync::ledger::Ledger;
@@ -135,7 +135,7 @@ fn show<S: Source, K: Sink, L: Ledger>(
     sink: &mut K,
     steps: &mut Steps<L>,
 ) -> Result<Outcome, Failed>
-    requires { length input.items ≡ 1048576 }
+    requires { LONGEST_RECORD ≤ length input.items }
     ensures run { ShowRun (S.left source.old) (S.left source.new) (K.held sink.old) (K.held sink.new) steps.old steps.new result }
     ensures source_later { S.faults source.old ≤ S.faults source.new }
     ensures sink_later { K.faults sink.old ≤ K.faults sink.new }
@@ -179,7 +179,7 @@ pub(crate) fn run_show<S: Source, K: Sink, L: Ledger>(
     sink: &mut K,
     steps: &mut Steps<L>,
 ) -> Outcome
-    requires { length input.items ≡ 1048576 }
+    requires { LONGEST_RECORD ≤ length input.items }
     ensures run { EndsShow (S.left source.old) (S.left source.new) (K.held sink.old) (K.held sink.new) steps.old steps.new result }
     ensures status { result.status ≤ 7 }
     ensures source_later { S.faults source.old ≤ S.faults source.new }

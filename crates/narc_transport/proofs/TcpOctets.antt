@@ -5,13 +5,13 @@ use Rattle.std.specs.Borrow.{Bor}
 use Rattle.std.proofs.Math.Nat.{mod-eq_of_lt}
 use Rattle.std.proofs.lemmas.Bool.{and_parts, and_from, ltb-true, ltb-false, lt-ltb}
 use Rattle.narc_bits.specs.Octets.{IsOctets, number_of, big_endian}
-use Rattle.narc_bits.specs.InternetSum.{IsGoodSum}
+use Rattle.narc_bits.specs.InternetSum.{IsGoodSum, is_good_total}
 use Rattle.narc_bits.proofs.Octets.{IsOctets-front, IsOctets-back}
 use Rattle.narc_bits.proofs.Spelled.{length-big_endian}
 use Rattle.narc_layout.proofs.NetworkOrder.{number_of_lt, big_endian-number_of}
 use Rattle.narc_layout.proofs.ReadLayout.{Parts}
 use Rattle.narc_layout.proofs.Sizes.{pair_eq}
-use Rattle.narc_layout.proofs.SumReads.{is_good_total, sum_of_octets, good_behind}
+use Rattle.narc_layout.proofs.SumReads.{sum_of_octets, good_behind}
 use Rattle.narc_options.proofs.AreaRead.{IsAreaOf}
 use Rattle.narc_packet.proofs.OptionLists.{AreIpOptions-few}
 use Rattle.narc_packet.proofs.SpelledOptions.{AreTcpOptions-ip, FitArea-tcp_options}

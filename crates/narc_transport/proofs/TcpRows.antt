@@ -4,12 +4,12 @@ use Rattle.std.specs.Prelude.{slice_range, unwrap_or, is_some}
 use Rattle.std.proofs.lemmas.Bool.{lt-ltb, le-ltb, ltb-true, ltb-false, or_parts, or_from}
 use Rattle.std.proofs.lemmas.List.{drop-drop}
 use Rattle.narc_bits.specs.Octets.{IsOctets, is_shorter, number_at, number_of}
-use Rattle.narc_bits.specs.InternetSum.{is_good_sum}
+use Rattle.narc_bits.specs.InternetSum.{is_good_sum, is_good_total}
 use Rattle.narc_bits.proofs.Octets.{IsOctets-drop}
 use Rattle.narc_format.specs.Rows.{Row, row, first_failing}
 use Rattle.narc_format.specs.declared.field.TheConstants as field
 use Rattle.narc_layout.proofs.SameRows.{same_fail, shorter-drop, row_same, row_passes}
-use Rattle.narc_layout.proofs.SumReads.{is_good_total, sum_of_octets, good_behind}
+use Rattle.narc_layout.proofs.SumReads.{sum_of_octets, good_behind}
 use Rattle.narc_packet.specs.Options.{bad_option}
 use Rattle.narc_packet.specs.Tcp.{tcp_pseudo_header}
 use Rattle.narc_packet.specs.Refusal.{options_row, tcp_rows}

@@ -5,12 +5,12 @@ use Rattle.std.proofs.lemmas.Bool.{eqb-true}
 use Rattle.std.proofs.lemmas.List.{take_at}
 use Rattle.narc_bits.specs.Octets.{IsOctets, number_of, number_at, big_endian}
 use Rattle.narc_bits.specs.Bits.{bits}
-use Rattle.narc_bits.specs.InternetSum.{IsGoodSum}
+use Rattle.narc_bits.specs.InternetSum.{IsGoodSum, is_good_total}
 use Rattle.narc_bits.proofs.Octets.{IsOctets-front, IsOctets-back}
 use Rattle.narc_bits.proofs.Spelled.{length-big_endian}
 use Rattle.narc_layout.proofs.NetworkOrder.{number_of_lt, number_of-big_endian, big_endian-number_of}
 use Rattle.narc_layout.proofs.ReadLayout.{Parts}
-use Rattle.narc_layout.proofs.SumReads.{has_no_sum, is_good_total, sum_of_octets, word_in_hole, good_behind, or_true, or_cases}
+use Rattle.narc_layout.proofs.SumReads.{has_no_sum, sum_of_octets, word_in_hole, good_behind, or_true, or_cases}
 use Rattle.narc_packet.specs.declared.packet.Udp.{Udp}
 use Rattle.narc_packet.specs.PacketView.{UdpView, udp_view}
 use Rattle.narc_packet.specs.Ranges.{IsIp}

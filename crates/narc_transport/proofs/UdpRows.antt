@@ -4,12 +4,12 @@ use Rattle.std.proofs.lemmas.Bool.{lt-ltb, le-ltb, ltb-true, ltb-false, or_parts
 use Rattle.std.proofs.lemmas.List.{drop-take, take-take}
 use Rattle.narc_bits.specs.Octets.{IsOctets, is_shorter, number_at, number_of}
 use Rattle.narc_bits.specs.Bits.{bits}
-use Rattle.narc_bits.specs.InternetSum.{is_good_sum}
+use Rattle.narc_bits.specs.InternetSum.{is_good_sum, is_good_total}
 use Rattle.narc_bits.proofs.Octets.{IsOctets-take}
 use Rattle.narc_format.specs.Rows.{Row, row, first_failing, differs}
 use Rattle.narc_format.specs.declared.field.TheConstants as field
 use Rattle.narc_layout.proofs.SameRows.{same_test, shorter-drop, not_true, or_assoc, not_and, not_or, not_not, row_same, row_passes}
-use Rattle.narc_layout.proofs.SumReads.{has_no_sum, is_good_total, sum_of_octets, word_in_hole, good_behind}
+use Rattle.narc_layout.proofs.SumReads.{has_no_sum, sum_of_octets, word_in_hole, good_behind}
 use Rattle.narc_packet.specs.Udp.{udp_pseudo_header}
 use Rattle.narc_packet.specs.Refusal.{udp_rows}
 use Rattle.narc_transport.specs.declared.context.Ends.{Ends}

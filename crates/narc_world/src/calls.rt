@@ -4,7 +4,7 @@ ghost use Rattle.std.specs.Prelude.{◌≡◌, [], IfOk};
 ghost use Rattle.narc_world.specs.Memory.{is_failing};
 ghost use Rattle.narc_world.specs.Outside.{one_more};
 
-use super::error::NoMemory;
+use crate::error::NoMemory;
 use std::alloc::Global;
 
 /// How many calls were made and how many of them failed, and the numbers of those that are to fail.

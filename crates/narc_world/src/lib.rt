@@ -11,12 +11,14 @@ mod sink;
 mod source;
 mod std_sink;
 mod std_source;
+#[cfg(test)]
+mod tests;
 mod words;
 
 pub use error::{Failed, NoMemory};
 pub use memory_sink::MemorySink;
 pub use memory_source::MemorySource;
-pub use room::Room;
+pub use room::{FRAME_BUFFER, INPUT_BUFFER, Room};
 pub use sink::Sink;
 pub use source::{Pulled, Source};
 pub use std_sink::StdSink;

@@ -2,11 +2,11 @@
 
 ghost use Rattle.std.specs.Prelude.{◌≡◌, ◌≤◌, ◌++◌, [], IfOk, OnErr, Some, if◌then◌else◌, is_ok, length, take};
 ghost use Rattle.narc_world.specs.Memory.{taken, takes_all};
-ghost use Rattle.narc_world.specs.Outside.{IsPushed, Rose, one_more};
+ghost use Rattle.narc_world.specs.Outside.{CountsFaults, IsPushed, one_more};
 
-use super::calls::Calls;
-use super::error::{Failed, NoMemory};
-use super::sink::Sink;
+use crate::calls::Calls;
+use crate::error::{Failed, NoMemory};
+use crate::sink::Sink;
 use std::alloc::Global;
 use std::marker::Model;
 
@@ -67,8 +67,7 @@ impl Sink for MemorySink {
 
     fn push(&mut self, bytes: &[u8]) -> Result<(), Failed>
         ensures octets { IsPushed result (Some self.old.held) (Some self.new.held) bytes.now }
-        ensures later { self.old.faults ≤ self.new.faults }
-        ensures cause { OnErr result (Rose self.old.faults self.new.faults) }
+        ensures faults { CountsFaults (OnErr result) self.old.faults self.new.faults }
         ensures answer { is_ok result ≡ takes_all self.old (length bytes.now) }
         ensures held { self.new.held ≡ self.old.held ++ take (taken self.old (length bytes.now)) bytes.now }
         ensures count { self.new.faults ≡ (if is_ok result then self.old.faults else one_more self.old.faults) }
@@ -85,38 +84,6 @@ impl Sink for MemorySink {
             self.calls.fail();
             return Err(Failed);
         }
-        Ok(())
-    }
-}
-
-#[cfg(test)]
-mod tests {
-    use super::*;
-    use std::test::Fail;
-
-    #[test]
-    fn a_push_that_fails_appends_half_and_the_next_goes_on(rt: HostRuntime) -> Result<(), Fail> {
-        let mut sink = MemorySink::new(rt.alloc(), 8, &[2])?;
-        assert!(rt; sink.push(&[1, 2]).is_ok());
-        assert!(rt; sink.push(&[3, 4, 5]).is_err());
-        assert_eq!(rt; sink.bytes(), [1, 2, 3].as_slice());
-        assert!(rt; sink.push(&[6]).is_ok());
-        assert_eq!(rt; sink.bytes(), [1, 2, 3, 6].as_slice());
-        Ok(())
-    }
-
-    #[test]
-    fn a_full_sink_appends_what_fits_and_fails(rt: HostRuntime) -> Result<(), Fail> {
-        let mut sink = MemorySink::new(rt.alloc(), 3, &[4])?;
-        assert!(rt; sink.push(&[1, 2]).is_ok());
-        assert!(rt; sink.push(&[3, 4]).is_err());
-        assert_eq!(rt; sink.bytes(), [1, 2, 3].as_slice());
-        assert!(rt; sink.push(&[]).is_ok(), "nothing always fits");
-        assert!(rt;
-            sink.push(&[5, 6]).is_err(),
-            "half of it does not fit either"
-        );
-        assert_eq!(rt; sink.bytes(), [1, 2, 3].as_slice());
         Ok(())
     }
 }

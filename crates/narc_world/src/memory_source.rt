@@ -2,11 +2,11 @@
 
 ghost use Rattle.std.specs.Prelude.{◌≡◌, ◌<◌, ◌≤◌, IfOk, Some, length};
 ghost use Rattle.narc_world.specs.Memory.{piece, pull_answer};
-ghost use Rattle.narc_world.specs.Outside.{HasFailed, IsPulled, faults_after, one_more};
+ghost use Rattle.narc_world.specs.Outside.{CountsFaults, IsPulled, OnFailed, faults_after, one_more};
 
-use super::calls::Calls;
-use super::error::NoMemory;
-use super::source::{Pulled, Source};
+use crate::calls::Calls;
+use crate::error::NoMemory;
+use crate::source::{Pulled, Source};
 use std::alloc::Global;
 use std::marker::Model;
 
@@ -82,8 +82,7 @@ impl Source for MemorySource {
     fn pull(&mut self, into: &mut [u8]) -> Pulled
         requires { 0 < length into.old }
         ensures octets { IsPulled result (Some self.old.left) (Some self.new.left) into.new }
-        ensures later { self.old.faults ≤ self.new.faults }
-        ensures cause { HasFailed result self.old.faults self.new.faults }
+        ensures faults { CountsFaults (OnFailed result) self.old.faults self.new.faults }
         ensures answer { result ≡ pull_answer self.old (length into.old) }
         ensures count { self.new.faults ≡ faults_after result self.old.faults }
         ensures calls { self.new.calls ≡ one_more self.old.calls }
@@ -103,54 +102,5 @@ impl Source for MemorySource {
         into[..count].copy_from_slice(&rest[..count]);
         self.taken += count;
         Pulled::Got(count)
-    }
-}
-
-#[cfg(test)]
-mod tests {
-    use super::*;
-    use std::test::Fail;
-
-    #[test]
-    fn octets_come_in_pieces_and_a_piece_of_none_is_one(rt: HostRuntime) -> Result<(), Fail> {
-        let mut source = MemorySource::new(rt.alloc(), &[1, 2, 3, 4, 5, 6, 7], &[2, 0, 9], &[])?;
-        let mut into = [0; 3];
-        assert_eq!(rt; source.pull(&mut into), Pulled::Got(2));
-        assert!(rt; into.starts_with(&[1, 2]));
-        assert_eq!(rt; source.pull(&mut into), Pulled::Got(1));
-        assert!(rt; into.starts_with(&[3]));
-        assert_eq!(rt;
-            source.pull(&mut into),
-            Pulled::Got(3),
-            "no more than the slice"
-        );
-        assert_eq!(rt; into, [4, 5, 6]);
-        assert_eq!(rt;
-            source.pull(&mut into),
-            Pulled::Got(1),
-            "no bound behind the pieces"
-        );
-        assert!(rt; into.starts_with(&[7]));
-        assert_eq!(rt; source.pull(&mut into), Pulled::End);
-        assert_eq!(rt; source.pull(&mut into), Pulled::End, "an end stays");
-        Ok(())
-    }
-
-    #[test]
-    fn a_pull_that_fails_takes_nothing_and_the_next_goes_on(rt: HostRuntime) -> Result<(), Fail> {
-        let mut source = MemorySource::new(rt.alloc(), &[1, 2, 3], &[9, 1], &[1, 3])?;
-        let mut into = [0; 8];
-        assert_eq!(rt; source.pull(&mut into), Pulled::Failed);
-        assert_eq!(rt;
-            source.pull(&mut into),
-            Pulled::Got(1),
-            "the failed call was the first"
-        );
-        assert!(rt; into.starts_with(&[1]));
-        assert_eq!(rt; source.pull(&mut into), Pulled::Failed);
-        assert_eq!(rt; source.pull(&mut into), Pulled::Got(2));
-        assert!(rt; into.starts_with(&[2, 3]));
-        assert_eq!(rt; source.pull(&mut into), Pulled::End);
-        Ok(())
     }
 }

@@ -1,9 +1,9 @@
 //! Where octets go.
 
 ghost use Rattle.std.specs.Prelude.{◌≤◌, ℕ, List, OnErr, Option};
-ghost use Rattle.narc_world.specs.Outside.{IsPushed, Rose};
+ghost use Rattle.narc_world.specs.Outside.{CountsFaults, IsPushed};
 
-use super::error::Failed;
+use crate::error::Failed;
 
 /// Where octets go.
 pub trait Sink {
@@ -17,6 +17,5 @@ pub trait Sink {
     /// fails. `Failed` only where the count of faults rose, or stands at its last value.
     fn push(&mut self, bytes: &[u8]) -> Result<(), Failed>
         ensures octets { IsPushed result (held self.old) (held self.new) bytes.now }
-        ensures later { faults self.old ≤ faults self.new }
-        ensures cause { OnErr result (Rose (faults self.old) (faults self.new)) };
+        ensures faults { CountsFaults (OnErr result) (faults self.old) (faults self.new) };
 }

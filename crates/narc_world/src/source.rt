@@ -1,7 +1,7 @@
 //! Where octets come from.
 
 ghost use Rattle.std.specs.Prelude.{◌<◌, ◌≤◌, ℕ, List, Option, length};
-ghost use Rattle.narc_world.specs.Outside.{HasFailed, IsPulled};
+ghost use Rattle.narc_world.specs.Outside.{CountsFaults, IsPulled, OnFailed};
 
 /// What a pull gave.
 #[derive(Debug, Drop, PartialEq)]
@@ -27,6 +27,5 @@ pub trait Source {
     fn pull(&mut self, into: &mut [u8]) -> Pulled
         requires { 0 < length into.old }
         ensures octets { IsPulled result (left self.old) (left self.new) into.new }
-        ensures later { faults self.old ≤ faults self.new }
-        ensures cause { HasFailed result (faults self.old) (faults self.new) };
+        ensures faults { CountsFaults (OnFailed result) (faults self.old) (faults self.new) };
 }

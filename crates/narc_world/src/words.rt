@@ -2,7 +2,7 @@
 
 ghost use Rattle.std.specs.Prelude.{◌≡◌, ◌<◌, ◌++◌, ◌∷◌, [], if◌then◌else◌, length, is_ok, slice_get, Some};
 
-use super::error::NoMemory;
+use crate::error::NoMemory;
 use std::alloc::Global;
 use std::marker::Model;
 
@@ -53,24 +53,5 @@ impl Words {
         ensures word { slice_get self.now i ≡ Some result.now }
     {
         &self.words[i]
-    }
-}
-
-#[cfg(test)]
-mod tests {
-    use super::*;
-    use std::test::Fail;
-
-    #[test]
-    fn words_keep_their_order(rt: HostRuntime) -> Result<(), Fail> {
-        let mut words = Words::new(rt.alloc());
-        for word in ["trial", "", "7"] {
-            words.add(word)?;
-        }
-        assert_eq!(rt; words.len(), 3);
-        assert_eq!(rt; words.word(0), "trial");
-        assert_eq!(rt; words.word(1), "");
-        assert_eq!(rt; words.word(2), "7");
-        Ok(())
     }
 }

@@ -4,30 +4,13 @@ ghost use Rattle.narc_list.specs.Bytes.{all_octets};
 ghost use Rattle.narc_list.specs.BytesLaws.{all_octets_laws};
 ghost use Rattle.narc_compose.specs.declared.either.Either.TheVariants.{Left, Right};
 
-use crate::{Carry, Choose, Either, Named, Part, Parted, Pick, Seq, SeqTail, Strip, Union};
+use crate::{Carry, Choose, Either, Named, NoContext, Part, Parted, Pick, Seq, SeqTail, Strip, Then, Union};
 use narc_bits::{Cursor, Steps, Writer};
 use narc_format::field::{IPV4_HEADER_LENGTH, IPV4_VERSION, UDP_DESTINATION, UDP_SOURCE};
 use narc_format::{Fault, Tail};
 use narc_list::Bytes;
 use narc_scalar::Word;
 use std::sync::ledger::Ledger;
-
-/// Nothing is carried.
-pub struct Nothing;
-
-impl<V> Carry<V, (), ()> for Nothing {
-    type Ctx = ();
-
-    ghost first_of = { λ c. c };
-
-    ghost second_of = { λ c v. c };
-
-    ghost valid = { λ c. Unit {0} };
-
-    fn first(_ctx: ()) {}
-
-    fn second(_ctx: (), _value: &V) {}
-}
 
 /// The first part is the context of the second.
 pub struct Kind;
@@ -138,20 +121,22 @@ impl<'a> Part<Cursor<'a>> for Payload {
     ghost laws = { all_octets_laws };
 }
 
-pub type Ports = Seq<Named<Word<16>, UDP_SOURCE>, Named<Word<16>, UDP_DESTINATION>, Nothing>;
+pub type Ports = Then<Named<Word<16>, UDP_SOURCE>, Named<Word<16>, UDP_DESTINATION>>;
 
-pub type Datagram = SeqTail<Ports, Parted<Payload>, Nothing>;
+pub type Datagram = SeqTail<Ports, Parted<Payload>, NoContext>;
 
 pub type Kinded = Seq<Word<8>, Union<ByKind, Word<8>, Word<16>>, Kind>;
 
 pub type KindedTail = SeqTail<
     Word<8>,
-    Union<ByKind, Bytes, SeqTail<Word<8>, Bytes, Nothing>>,
+    Union<ByKind, Bytes, SeqTail<Word<8>, Bytes, NoContext>>,
     Kind,
 >;
 
-pub type Spare = Strip<Seq<Word<1>, Word<7>, Nothing>, WithoutBit>;
+pub type Spare = Strip<Then<Word<1>, Word<7>>, WithoutBit>;
 
-pub type SpareTail = Strip<SeqTail<Word<8>, Bytes, Nothing>, WithoutOctet>;
+pub type SpareTail = Strip<SeqTail<Word<8>, Bytes, NoContext>, WithoutOctet>;
 
-pub type Halves = Seq<Named<Word<4>, IPV4_VERSION>, Named<Word<4>, IPV4_HEADER_LENGTH>, Nothing>;
+pub type Halves = Then<Named<Word<4>, IPV4_VERSION>, Named<Word<4>, IPV4_HEADER_LENGTH>>;
+
+pub type Octets = Then<Named<Word<8>, IPV4_VERSION>, Named<Word<8>, IPV4_HEADER_LENGTH>>;
