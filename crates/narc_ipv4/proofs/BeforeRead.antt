@@ -1,15 +1,11 @@
 -- The first 10 octets of a header, and the rows that refuse them.
-use Rattle.std.proofs.Common.{◌≡◌, ℕ, ◌+◌, ◌*◌, ◌/◌, ◌%◌, ◌^◌, ◌<◌, ◌≤◌, Bool, not, ◌||◌, List, [], ◌∷◌, ◌++◌, take, drop, nat_eq, nat_lt, IsTrue, lit≤, refl, sym, ap, ◌∙◌, append_assoc}
+use Rattle.std.proofs.Common.{◌≡◌, ℕ, ◌+◌, ◌*◌, ◌^◌, ◌<◌, ◌≤◌, not, ◌||◌, List, [], ◌∷◌, ◌++◌, drop, IsTrue, lit≤, refl, ap, ◌∙◌, append_assoc}
 use Rattle.narc_bits.specs.Octets.{IsOctets, is_shorter, number_at, big_endian}
-use Rattle.narc_format.specs.Meaning.{Meaning}
 use Rattle.narc_format.specs.declared.field.TheConstants as field
-use Rattle.narc_scalar.specs.Tested.{tested}
 use Rattle.narc_scalar.specs.Word.{word}
-use Rattle.narc_compose.specs.Named.{named}
-use Rattle.narc_compose.specs.Seq.{seq}
 use Rattle.narc_format.specs.Rows.{Row, row}
 use Rattle.narc_compose.specs.Both.{both}
-use Rattle.narc_ipv4.specs.Header.{is_total_length, is_flags, header_length_of, RawLengths, RawMiddle, RawBefore, first_octet, ip_service, ip_total, ip_lengths, ip_fragment, ip_middle, ip_before}
+use Rattle.narc_ipv4.specs.Header.{is_total_length, is_flags, header_length_of, RawMiddle, RawBefore, first_octet, ip_service, ip_lengths, ip_fragment, ip_middle, ip_before}
 use Rattle.narc_layout.proofs.ReadLayout.{IsRead, Parts, read_layout, seq_read}
 use Rattle.narc_layout.proofs.FieldLayout.{unnamed_layout, named_layout}
 use Rattle.narc_layout.proofs.TestLayout.{shape_word, unnamed_word, shape_tested, unnamed_tested}

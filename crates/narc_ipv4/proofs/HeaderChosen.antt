@@ -1,44 +1,34 @@
 -- Headers in other contexts, and with the shortest area.
-use Rattle.std.proofs.Common.{◌≡◌, ℕ, ◌+◌, ◌*◌, ◌-◌, ◌/◌, ◌%◌, ◌^◌, ◌<◌, ◌≤◌, Bool, true, false, not, ◌&&◌, List, [], ◌++◌, length, IsTrue, nat_eq, nat_lt, refl, sym, ap, ◌∙◌, subst, arith, lit<, lit≤, length-append}
+use Rattle.std.proofs.Common.{◌≡◌, ℕ, ◌+◌, ◌*◌, ◌/◌, ◌%◌, ◌^◌, ◌<◌, ◌≤◌, Bool, not, List, length, IsTrue, nat_eq, nat_lt, refl, sym, ap, ◌∙◌, subst, arith}
 use Rattle.std.specs.Borrow.{Bor}
-use Rattle.std.proofs.lemmas.Bool.{ltb-false, le-ltb}
+use Rattle.std.proofs.lemmas.Bool.{ltb-false, le-ltb, not-true, and_parts, and_from}
 use Rattle.std.proofs.Math.Nat.{mod-eq_of_lt}
 use Rattle.narc_scalar.specs.Octets.{fixed_octets}
 use Rattle.narc_scalar.specs.Tested.{tested}
 use Rattle.narc_scalar.specs.Word.{word}
-use Rattle.narc_compose.specs.Conditions.{and_left, and_right}
 use Rattle.narc_compose.specs.Gap.{gapped}
 use Rattle.narc_compose.specs.Named.{named}
 use Rattle.narc_compose.specs.Seq.{seq}
 use Rattle.narc_compose.specs.Strip.{stripped}
-use Rattle.narc_list.specs.Region.{region}
 use Rattle.narc_sum.specs.Checked.{checked}
 use Rattle.narc_packet.specs.Ranges.{IsIp}
 use Rattle.narc_options.specs.Option.{option_region}
 use Rattle.narc_options.proofs.AreaSound.{region_chosen}
 use Rattle.narc_ipv4.specs.declared.as_header.IpHeader.{IpHeader}
-use Rattle.narc_ipv4.specs.Header.{is_version, is_header_length, is_total_length, is_flags, header_length_of, area_length_of, RawBefore, RawHeader, fragment_word_of, header_of, raw_header, ip_lengths, ip_before, ip_area, ip_behind, ip_fields, ip_summed, ip_head}
-use Rattle.narc_ipv4.proofs.HeaderSound.{IsFrontInRange, front_ranges, front_admits, fields_size, length_five}
+use Rattle.narc_ipv4.specs.Header.{is_version, is_total_length, header_length_of, area_length_of, RawBefore, RawHeader, header_of, raw_header, ip_before, ip_fields, ip_summed, ip_head}
+use Rattle.narc_ipv4.proofs.HeaderSound.{IsFrontInRange, front_ranges, front_admits, fields_size}
 
-not_true : (b : Bool) → IsTrue (not b) → b ≡ false
-not_true true h = cc
-not_true false h = refl
-
-and_both : (a b : Bool) → IsTrue a → IsTrue b → IsTrue (a && b)
-and_both true b h k = k
-and_both false b h k = h
-
-at_least : (n m : ℕ) → m ≤ n → IsTrue (not (nat_lt n m))
+pub at_least : (n m : ℕ) → m ≤ n → IsTrue (not (nat_lt n m))
 at_least n m h = ap not (le-ltb n m h)
 
 pub total_fits : (c : ℕ × ℕ) (n : ℕ) → c.0 ≤ n → n ≤ c.1 → IsTrue (is_total_length c n)
-total_fits c n h k = and_both (not (nat_lt n c.0)) (not (nat_lt c.1 n)) (at_least n c.0 h) (at_least c.1 n k)
+total_fits c n h k = and_from (not (nat_lt n c.0)) (not (nat_lt c.1 n)) (at_least n c.0 h) (at_least c.1 n k)
 
 pub total_least : (c : ℕ × ℕ) (n : ℕ) → IsTrue (is_total_length c n) → c.0 ≤ n
-total_least c n h = ltb-false n c.0 (not_true (nat_lt n c.0) (and_left (not (nat_lt n c.0)) (not (nat_lt c.1 n)) h))
+total_least c n h = ltb-false n c.0 (not-true (nat_lt n c.0) (and_parts (not (nat_lt n c.0)) (not (nat_lt c.1 n)) h).0)
 
 pub total_most : (c : ℕ × ℕ) (n : ℕ) → IsTrue (is_total_length c n) → n ≤ c.1
-total_most c n h = ltb-false c.1 n (not_true (nat_lt c.1 n) (and_right (not (nat_lt n c.0)) (not (nat_lt c.1 n)) h))
+total_most c n h = ltb-false c.1 n (not-true (nat_lt c.1 n) (and_parts (not (nat_lt n c.0)) (not (nat_lt c.1 n)) h).1)
 
 -- a front stands wherever its total length has room
 front_moves : (c d : ℕ) (v : RawBefore) (b : List Bool) → v.0.1 ≤ d → ip_before.stands c v b → ip_before.stands d v b

@@ -1,28 +1,31 @@
 -- The octets that stand for a header are those of it.
-use Rattle.std.proofs.Common.{◌≡◌, ℕ, zero, suc, ◌+◌, ◌*◌, ◌-◌, ◌/◌, ◌%◌, ◌^◌, ◌<◌, ◌≤◌, ◌↔◌, Bool, true, false, not, List, [], ◌∷◌, ◌++◌, length, take, nat_eq, nat_lt, IsTrue, refl, sym, ap, ◌∙◌, subst, arith, lit<, length-append, append-nil, append_assoc, if◌then◌else◌}
-use Rattle.std.specs.Prelude.{flat_map}
+use Rattle.std.proofs.Common.{◌≡◌, ℕ, ◌+◌, ◌*◌, ◌-◌, ◌/◌, ◌%◌, ◌^◌, ◌<◌, ◌↔◌, Bool, true, false, not, List, [], ◌∷◌, ◌++◌, length, nat_eq, IsTrue, refl, sym, ap, ◌∙◌, subst, arith, length-append, append-nil, if◌then◌else◌}
 use Rattle.std.specs.Borrow.{Bor}
 use Rattle.std.proofs.Math.Nat.{mod-eq_of_lt}
-use Rattle.std.proofs.lemmas.Bool.{eqb-true, le-ltb}
+use Rattle.std.proofs.lemmas.Bool.{eqb-true}
 use Rattle.narc_bits.specs.Octets.{IsOctets, number_of, number_at, big_endian}
 use Rattle.narc_bits.specs.Bits.{bits, bits_of_number}
 use Rattle.narc_bits.specs.InternetSum.{IsGoodSum}
 use Rattle.narc_bits.proofs.Octets.{IsOctets-append, IsOctets-front, IsOctets-back, IsOctets-big_endian}
 use Rattle.narc_bits.proofs.Spelled.{bits_same, bits-big_endian, length-big_endian}
 use Rattle.narc_layout.proofs.NetworkOrder.{number_of_lt, number_of-big_endian, big_endian-number_of}
-use Rattle.narc_layout.proofs.ReadLayout.{Parts, IsRead, Spelled}
+use Rattle.narc_layout.proofs.ReadLayout.{IsRead}
 use Rattle.narc_layout.proofs.SameRows.{fault_same}
 use Rattle.narc_layout.proofs.ViewReads.{read_as}
 use Rattle.narc_packet.specs.Refusal.{header_length, ipv4_rows}
-use Rattle.narc_packet.specs.Options.{IpOptionView, ip_option, ip_options_in, IsIpArea}
+use Rattle.narc_compose.specs.Named.{named}
+use Rattle.narc_compose.specs.Seq.{seq}
+use Rattle.narc_compose.specs.Strip.{stripped}
+use Rattle.narc_sum.specs.Checked.{checked}
 use Rattle.narc_packet.specs.Ranges.{IsIp}
 use Rattle.narc_packet.specs.Ipv4.{ipv4_header, fragment_word, IsIpv4InRange}
 use Rattle.narc_options.proofs.Areas.{ip_area_of, area_of_ip}
 use Rattle.narc_ipv4.specs.declared.as_header.IpHeader.{IpHeader}
-use Rattle.narc_ipv4.specs.Header.{is_version, is_header_length, is_total_length, is_flags, header_length_of, area_length_of, RawBefore, RawHeader, fragment_word_of, header_of, raw_header, ip_head}
+use Rattle.narc_ipv4.specs.Header.{is_version, is_header_length, is_flags, header_length_of, area_length_of, RawBefore, RawHeader, fragment_word_of, header_of, raw_header, ip_head}
+use Rattle.narc_ipv4.specs.Laws.{ip_head_laws}
 use Rattle.narc_ipv4.specs.HeaderOctets.{packet_of, IsHeader, IsItsOctets, IsRefusedByRow}
-use Rattle.narc_ipv4.proofs.HeaderSound.{IsFrontInRange, fragment_back, length_five}
-use Rattle.narc_ipv4.proofs.HeaderChosen.{total_least, total_most, total_fits}
+use Rattle.narc_ipv4.proofs.HeaderSound.{IsFrontInRange, fragment_back, length_five, head_sound}
+use Rattle.narc_ipv4.proofs.HeaderChosen.{at_least, total_least, total_most, total_fits, head_size}
 use Rattle.narc_ipv4.proofs.BeforeRead.{IsBefore}
 use Rattle.narc_ipv4.proofs.HeaderRead.{IsBehind, IsFields, IsComposed, composed_rows, composed_read}
 use Rattle.narc_ipv4.proofs.HeaderRows.{rows_are}
@@ -186,9 +189,6 @@ no_flag k h = let e : k / 32768 ≡ 0 = omega (arith, h) in ap (λ n. not (nat_e
 is_first : (n : ℕ) → n / 16 ≡ 4 → IsTrue (is_version tt n)
 is_first n h = ap (λ k. nat_eq k 4) h
 
-is_long : (n : ℕ) → 5 ≤ n % 16 → IsTrue (is_header_length tt n)
-is_long n h = ap not (le-ltb (n % 16) 5 h)
-
 -- the fields that are written for a header
 chosen_ranges : (n : ℕ) (h : IpHeader) (o : List ℕ) → IsHeader n h o → IsFrontInRange n (raw_header h).0
 chosen_ranges n h o p =
@@ -200,7 +200,7 @@ chosen_ranges n h o p =
     record {
       first = omega (arith, size, most);
       version = is_first (64 + h.length / 4) (omega (arith, size, most));
-      least = is_long (64 + h.length / 4) (omega (arith, size, most));
+      least = at_least ((64 + h.length / 4) % 16) 5 (omega (arith, size, most));
       tos = omega (arith, p.in_range.tos);
       total = p.small;
       fits = total_fits (header_length_of (64 + h.length / 4), n) h.total (omega (arith, first, p.fits)) p.present;
@@ -341,3 +341,14 @@ refused_by_row x each f = (
   λ p. fault_same 14 (composed_rows (length x) 14 x) (ipv4_rows x) f (rows_are 14 x) ((head_read.refuses (length x) 14 x each f).0 p),
   λ h. (head_read.refuses (length x) 14 x each f).1 (fault_same 14 (ipv4_rows x) (composed_rows (length x) 14 x) f (sym (rows_are 14 x)) h),
 )
+
+head_valid : (n : ℕ) → n < 2 ^ 64 → ip_head.valid n
+unfolding stripped named checked seq
+head_valid n h = h
+
+-- a header that has octets can be written, in as many
+pub head_admits : (n : ℕ) → n < 2 ^ 64 → (h : IpHeader) (o : List ℕ) → IsHeader n h o → ip_head.admits n h
+head_admits n ok h o p = ip_head_laws.admitted head_sound n (head_valid n ok) h (bits o) ((its_octets n h (bits o)).1 (o, p, refl))
+
+pub length-head : (n : ℕ) → n < 2 ^ 64 → (h : IpHeader) → ip_head.admits n h → length (ip_head.spelling n h) ≡ 8 * h.length
+length-head n ok h a = (head_size n h (ip_head.spelling n h) (ip_head_laws.spelling_stands head_sound n (head_valid n ok) h a)).size

@@ -1,9 +1,8 @@
 -- The octets that are a header, and the rows that refuse others, made of those of its fields.
-use Rattle.std.proofs.Common.{◌≡◌, ℕ, ◌+◌, ◌-◌, ◌*◌, ◌/◌, ◌%◌, ◌^◌, ◌<◌, ◌≤◌, Bool, not, ◌||◌, List, [], ◌∷◌, ◌++◌, length, take, drop, nat_eq, nat_lt, IsTrue, lit≤, refl, sym, ap, ◌∙◌, append_assoc, append-nil, take-append-drop}
+use Rattle.std.proofs.Common.{◌≡◌, ℕ, ◌+◌, ◌^◌, ◌<◌, not, List, [], ◌∷◌, ◌++◌, length, take, drop, lit≤, refl, sym, ap, ◌∙◌, append_assoc, append-nil, take-append-drop}
 use Rattle.std.proofs.lemmas.List.{take_at}
 use Rattle.narc_bits.specs.Octets.{IsOctets, is_shorter, number_at, big_endian}
 use Rattle.narc_bits.proofs.Octets.{IsOctets-take, IsOctets-drop}
-use Rattle.narc_format.specs.Meaning.{Meaning}
 use Rattle.narc_format.specs.declared.field.TheConstants as field
 use Rattle.narc_scalar.specs.Octets.{fixed_octets}
 use Rattle.narc_scalar.specs.OctetsLaws.{fixed_octets_laws}
@@ -11,16 +10,14 @@ use Rattle.narc_compose.specs.Gap.{gapped}
 use Rattle.narc_bits.specs.InternetSum.{IsGoodSum, is_good_sum}
 use Rattle.narc_format.specs.Rows.{Row, row}
 use Rattle.std.specs.Borrow.{Bor}
-use Rattle.narc_options.specs.Option.{option_region}
 use Rattle.narc_options.proofs.AreaRead.{IsArea, area_rows, area_read}
-use Rattle.narc_compose.specs.Both.{both}
 use Rattle.narc_layout.proofs.Fronts.{few, long, cut}
 use Rattle.narc_ipv4.specs.declared.as_header.IpHeader.{IpHeader}
-use Rattle.narc_ipv4.specs.Header.{area_length_of, RawBefore, RawBehind, RawHeader, header_of, raw_header, SameHeader, ip_before, ip_area, ip_behind, ip_fields, ip_summed, ip_head}
-use Rattle.narc_layout.proofs.ContextLayouts.{IsShaped, IsLayout}
+use Rattle.narc_ipv4.specs.Header.{area_length_of, RawBefore, RawBehind, RawHeader, header_of, raw_header, SameHeader, ip_before, ip_area, ip_behind, ip_fields, ip_head}
+use Rattle.narc_layout.proofs.ContextLayouts.{IsShaped}
 use Rattle.narc_layout.proofs.FieldLayout.{IsUnnamed, unnamed_layout}
 use Rattle.narc_layout.proofs.TestLayout.{unnamed_word}
-use Rattle.narc_layout.proofs.ReadLayout.{Parts, IsRead, IsTailRead, read_layout, seq_read}
+use Rattle.narc_layout.proofs.ReadLayout.{Parts, IsRead, read_layout, seq_read}
 use Rattle.narc_layout.proofs.RuleReads.{region_read, checked_read}
 use Rattle.narc_layout.proofs.ViewReads.{gap_read, rename, named_read, stripped_read}
 use Rattle.narc_ipv4.proofs.BeforeRead.{IsBefore, before_rows, before_read}

@@ -1,5 +1,5 @@
 -- The rows that refuse a header are those of the table.
-use Rattle.std.proofs.Common.{◌≡◌, ℕ, ◌+◌, ◌*◌, ◌-◌, ◌/◌, ◌%◌, ◌^◌, ◌≤◌, ◌<◌, Bool, true, false, not, ◌&&◌, ◌||◌, List, [], ◌∷◌, ◌++◌, length, take, drop, nat_eq, nat_lt, Option, Some, None, refl, sym, ap, ◌∙◌, arith, length-take, length-drop}
+use Rattle.std.proofs.Common.{◌≡◌, ℕ, ◌+◌, ◌/◌, ◌%◌, ◌≤◌, false, not, ◌||◌, List, [], ◌∷◌, length, take, drop, nat_eq, nat_lt, refl, ap, ◌∙◌, arith, length-take, length-drop}
 use Rattle.std.specs.Prelude.{is_some, unwrap_or}
 use Rattle.std.proofs.lemmas.Bool.{le-ltb, ltb-false, or_parts}
 use Rattle.std.proofs.lemmas.List.{drop-drop}
@@ -10,7 +10,7 @@ use Rattle.narc_format.specs.declared.field.TheConstants as field
 use Rattle.narc_layout.proofs.SameRows.{shorter-drop, or_assoc, not_and, not_not, row_same, row_passes}
 use Rattle.narc_packet.specs.Options.{bad_option}
 use Rattle.narc_packet.specs.Refusal.{header_length, total_length, area_in, options_row}
-use Rattle.narc_ipv4.specs.Header.{is_header_length, is_total_length, is_flags, header_length_of}
+use Rattle.narc_ipv4.specs.Header.{is_header_length, is_total_length, is_flags}
 use Rattle.narc_ipv4.specs.HeaderOctets.{header_rows}
 use Rattle.narc_ipv4.proofs.HeaderRead.{area_length, composed_size, composed_rows}
 

@@ -1,7 +1,7 @@
 -- The header of an IPv4 packet meets the conditions of its rules.
-use Rattle.std.proofs.Common.{◌≡◌, ℕ, zero, suc, ◌+◌, ◌*◌, ◌/◌, ◌%◌, ◌^◌, ◌<◌, ◌≤◌, Bool, true, false, not, List, [], ◌∷◌, ◌++◌, length, take, IsTrue, nat_eq, nat_lt, refl, sym, ap, ◌∙◌, subst, arith, inl, inr, lit≤, length-append, append-nil, append_assoc, if◌then◌else◌}
+use Rattle.std.proofs.Common.{◌≡◌, ℕ, zero, suc, ◌+◌, ◌*◌, ◌/◌, ◌%◌, ◌^◌, ◌<◌, ◌≤◌, Bool, false, List, [], ◌∷◌, ◌++◌, length, take, IsTrue, nat_eq, nat_lt, refl, sym, ap, ◌∙◌, subst, arith, inl, inr, lit≤, length-append, append-nil, append_assoc, if◌then◌else◌}
 use Rattle.std.proofs.Math.Nat.{mod-eq_of_lt}
-use Rattle.std.proofs.lemmas.Bool.{cases_lt, ltb-false, eqb-true, eqb-false}
+use Rattle.std.proofs.lemmas.Bool.{cases_lt, ltb-false, eqb-true, eqb-false, not-true}
 use Rattle.std.proofs.lemmas.List.{take_at}
 use Rattle.narc_bits.specs.Bits.{bits_of_number, number_of_bits, octets_of_bits}
 use Rattle.narc_bits.specs.InternetSum.{total as sum_of_octets}
@@ -24,7 +24,7 @@ use Rattle.narc_sum.specs.Checked.{checked}
 use Rattle.narc_options.proofs.AreaSound.{region_sound}
 use Rattle.narc_ipv4.specs.Laws.{ip_before_laws}
 use Rattle.narc_ipv4.specs.Header.{is_version, is_header_length, is_total_length, is_flags, header_length_of, area_length_of, RawBefore, RawHeader, HeaderView, header_view, SameHeader, fragment_word_of, header_of, raw_header, first_octet, ip_lengths, ip_middle, ip_before, ip_area, ip_behind, ip_fields, ip_summed, ip_head}
-use Rattle.narc_ipv4.proofs.Pairs.{pair_eq}
+use Rattle.narc_layout.proofs.Sizes.{pair_eq}
 
 first_octet_sound : first_octet.sound
 unfolding named tested word
@@ -124,12 +124,8 @@ front_admits n ok v r = (ok, (ok, (tt, ((r.first, r.version), r.least), r.tos), 
 version_four : (first : ℕ) → IsTrue (is_version tt first) → first / 16 ≡ 4
 version_four first h = eqb-true (first / 16) 4 h
 
-not_true : (b : Bool) → IsTrue (not b) → b ≡ false
-not_true true h = cc
-not_true false h = refl
-
 pub length_five : (first : ℕ) → IsTrue (is_header_length tt first) → 5 ≤ first % 16
-length_five first h = ltb-false (first % 16) 5 (not_true (nat_lt (first % 16) 5) h)
+length_five first h = ltb-false (first % 16) 5 (not-true (nat_lt (first % 16) 5) h)
 
 -- a front of 80 bits that stands, and what is known of it
 front_size : (c : ℕ) (v : RawBefore) (b : List Bool) → ip_before.stands c v b → length b ≡ 80
@@ -319,7 +315,7 @@ flag_number (suc (suc n)) k h = absurd (many n h) where
   many n h = omega (arith, h)
 
 low_word : (n : ℕ) → n < 2 ^ 16 → IsTrue (is_flags tt n) → n < 2 ^ 15
-low_word n h k = low n h (not_true (nat_eq (n / 32768) 1) k) where
+low_word n h k = low n h (not-true (nat_eq (n / 32768) 1) k) where
   low : (n : ℕ) → n < 2 ^ 16 → nat_eq (n / 32768) 1 ≡ false → n < 2 ^ 15
   low n h k = elim (cases_lt n (2 ^ 15)) [
     | inl p ↦ p

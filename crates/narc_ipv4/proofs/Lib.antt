@@ -1,4 +1,3 @@
-pub mod Pairs
 pub mod OptionSound
 pub mod HeaderSound
 pub mod HeaderChosen

@@ -19,7 +19,7 @@ use Rattle.narc_packet.specs.Options.{IpOther}
 use Rattle.narc_options.specs.Option.{RawOption, nothing, length_and_data, behind_kind, option_fields}
 use Rattle.narc_options.proofs.OptionSound.{length_least, option_sound}
 use Rattle.narc_ipv4.specs.Option.{option_of, ip_option_of, raw_ip_option, SameIpOption, ip_option_format}
-use Rattle.narc_ipv4.proofs.Pairs.{pair_eq}
+use Rattle.narc_layout.proofs.Sizes.{pair_eq}
 
 -- options of the same fields are the same
 same_option : (kind other : ℕ) → kind ≡ other → (v w : Either (Unit {0}) (ℕ × Bor (List ℕ))) → behind_kind.alike v w → SameIpOption (option_of kind v) (option_of other w)

@@ -5,6 +5,8 @@ mod as_header;
 mod header;
 mod laws;
 mod option;
+#[cfg(test)]
+mod tests;
 
 pub use as_header::{AsHeader, IpHeader, RawBefore, RawHeader};
 pub use header::{

@@ -1,10 +1,10 @@
 -- An options area by the slice of its options, and by the options in it.
-use Rattle.std.proofs.Common.{◌≡◌, ℕ, ◌%◌, ◌*◌, ◌+◌, ◌<◌, ◌≤◌, ◌^◌, List, [], ◌∷◌, ◌++◌, length, map, sym, ap, ◌∙◌}
+use Rattle.std.proofs.Common.{◌≡◌, ℕ, ◌%◌, List, ◌++◌, length, sym, ap, ◌∙◌}
 use Rattle.std.specs.Prelude.{flat_map}
 use Rattle.narc_bits.specs.Octets.{IsOctets}
 use Rattle.narc_packet.specs.Options.{IpOptionView, ip_option, ip_options_in, AreIpOptions, IsIpArea}
 use Rattle.narc_options.proofs.AreaRead.{IsAreaOf}
-use Rattle.narc_options.proofs.Spellings.{AreOptions, are_options, options_again}
+use Rattle.narc_options.proofs.Spellings.{are_options, options_again}
 
 -- the options of a slice that an area begins with
 pub ip_area_of : (l area : List ℕ) → IsOctets area → length area % 4 ≡ 0 → IsAreaOf l area → IsIpArea (ip_options_in l) area

@@ -1,7 +1,7 @@
 -- The octets of an option's fields.
-use Rattle.std.proofs.Common.{◌≡◌, ℕ, ◌+◌, ◌*◌, ◌^◌, ◌<◌, ◌≤◌, ◌↔◌, Bool, true, false, not, ◌&&◌, List, [], ◌++◌, length, IsTrue, nat_eq, nat_lt, refl, sym, ap, ◌∙◌, subst, arith, if◌then◌else◌}
+use Rattle.std.proofs.Common.{◌≡◌, ℕ, ◌+◌, ◌*◌, ◌^◌, ◌<◌, ◌≤◌, ◌↔◌, Bool, true, false, not, List, [], ◌++◌, length, IsTrue, nat_eq, nat_lt, refl, sym, ap, ◌∙◌, subst, arith, if◌then◌else◌}
 use Rattle.std.specs.Borrow.{Bor}
-use Rattle.std.proofs.lemmas.Bool.{lt-ltb, eqb-true, eqb-false}
+use Rattle.std.proofs.lemmas.Bool.{lt-ltb, eqb-true, eqb-false, ne_eqb, and_from}
 use Rattle.std.proofs.lemmas.List.{nil_from_length}
 use Rattle.narc_bits.specs.Bits.{bits, bits_of_number}
 use Rattle.narc_bits.proofs.Numbers.{length-bits}
@@ -46,25 +46,10 @@ view_of_fields IpNop = refl
 view_of_fields (IpOther kind octets) = refl
 
 kind_holds : (n : ℕ) → 1 ≤ n → IsTrue (is_kind tt n)
-kind_holds n h = ap not (is_no (nat_eq n 0) refl) where
-  is_no : (t : Bool) → nat_eq n 0 ≡ t → nat_eq n 0 ≡ false
-  is_no false e = e
-  is_no true e = absurd (none (eqb-true n 0 e)) where
-    none : n ≡ 0 → ⊥
-    none e = omega (arith, h, e)
+kind_holds n h = ap not (ne_eqb n 0 (λ e. omega (arith, h, e)))
 
 length_holds : (n : ℕ) → 2 ≤ n → n ≤ 40 → IsTrue (is_option_length tt n)
-length_holds n h k = both (nat_lt 1 n) (nat_lt n 41) (lt-ltb 1 n (omega (arith, h))) (lt-ltb n 41 (omega (arith, k))) where
-  both : (a b : Bool) → a ≡ true → b ≡ true → IsTrue (a && b)
-  both a b p q = ap (λ t. t && b) p ∙ q
-
-not_one : (n : ℕ) → 2 ≤ n → nat_eq n 1 ≡ false
-not_one n h = is_no (nat_eq n 1) refl where
-  is_no : (t : Bool) → nat_eq n 1 ≡ t → nat_eq n 1 ≡ false
-  is_no false e = e
-  is_no true e = absurd (none (eqb-true n 1 e)) where
-    none : n ≡ 1 → ⊥
-    none e = omega (arith, h, e)
+length_holds n h k = and_from (nat_lt 1 n) (nat_lt n 41) (lt-ltb 1 n (omega (arith, h))) (lt-ltb n 41 (omega (arith, k)))
 
 no_bits : (b : List Bool) → length b ≡ 8 * 0 → b ≡ []
 no_bits b h = nil_from_length b (omega (arith, h))
@@ -114,7 +99,7 @@ cut_option kind (Right r) h = record {
   joined = ap (λ n. bits_of_number 8 kind ++ (bits_of_number 8 n ++ bits r.1.now)) (sym h.1);
   some = omega (arith, h.0.least);
   small = omega (arith, h.0.kind_range);
-  behind = subst (λ t. Behind t (Right r) (bits_of_number 8 r.0 ++ bits r.1.now)) (sym (not_one kind h.0.least)) (record {
+  behind = subst (λ t. Behind t (Right r) (bits_of_number 8 r.0 ++ bits r.1.now)) (sym (ne_eqb kind 1 (λ e. omega (arith, h.0.least, e)))) (record {
     front = bits_of_number 8 r.0;
     back = bits r.1.now;
     joined = refl;

@@ -1,13 +1,12 @@
 -- The conditions of the rules of an option and of an options area.
-use Rattle.std.proofs.Common.{◌≡◌, ℕ, ◌-◌, ◌^◌, ◌<◌, ◌≤◌, Bool, true, false, not, List, ◌++◌, length, take, replicate, IsTrue, nat_eq, nat_lt, refl, sym, ap, ◌∙◌, subst, arith, lit<, lit≤, length-append, if◌then◌else◌}
+use Rattle.std.proofs.Common.{◌≡◌, ℕ, ◌-◌, ◌^◌, ◌<◌, ◌≤◌, Bool, true, false, List, ◌++◌, length, take, replicate, IsTrue, nat_eq, nat_lt, refl, sym, ap, ◌∙◌, arith, lit<, lit≤, length-append, if◌then◌else◌}
 use Rattle.std.proofs.Math.ListN.{length-replicate}
-use Rattle.std.proofs.lemmas.Bool.{ltb-true}
+use Rattle.std.proofs.lemmas.Bool.{ltb-true, and_parts, eqb-false, not-true}
 use Rattle.std.proofs.lemmas.List.{take_at}
 use Rattle.narc_bits.specs.Bits.{bits_of_number, number_of_bits}
 use Rattle.narc_bits.proofs.Numbers.{length-bits, length-bits_of_number, number_of_bits-bits_of_number_lt}
 use Rattle.narc_scalar.specs.Tested.{tested}
 use Rattle.narc_scalar.specs.Word.{word}
-use Rattle.narc_compose.specs.Conditions.{and_left, and_right}
 use Rattle.narc_compose.specs.declared.either.Either.TheVariants.{Left, Right}
 use Rattle.narc_compose.specs.Measured.{measured}
 use Rattle.narc_compose.specs.Seq.{seq}
@@ -21,15 +20,13 @@ use Rattle.narc_options.specs.Option.{is_kind, is_option_length, RawOption, opti
 use Rattle.narc_options.specs.Laws.{option_fields_laws}
 
 pub kind_some : (n : ℕ) → IsTrue (is_kind tt n) → n ≡ 0 → ⊥
-kind_some n h e = zero_kind (subst (λ k. IsTrue (is_kind tt k)) e h) where
-  zero_kind : IsTrue (not (nat_eq 0 0)) → ⊥
-  zero_kind h = cc
+kind_some n h = eqb-false n 0 (not-true (nat_eq n 0) h)
 
 pub length_least : (n : ℕ) → IsTrue (is_option_length tt n) → 2 ≤ n
-length_least n h = omega (arith, ltb-true 1 n (and_left (nat_lt 1 n) (nat_lt n 41) h))
+length_least n h = omega (arith, ltb-true 1 n (and_parts (nat_lt 1 n) (nat_lt n 41) h).0)
 
 pub length_most : (n : ℕ) → IsTrue (is_option_length tt n) → n ≤ 40
-length_most n h = omega (arith, ltb-true n 41 (and_right (nat_lt 1 n) (nat_lt n 41) h))
+length_most n h = omega (arith, ltb-true n 41 (and_parts (nat_lt 1 n) (nat_lt n 41) h).1)
 
 kind_sound : option_kind.sound
 unfolding tested word

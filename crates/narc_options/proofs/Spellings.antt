@@ -1,13 +1,13 @@
 -- The spellings of options, and the first bad option behind them.
-use Rattle.std.proofs.Common.{◌≡◌, ℕ, zero, suc, ◌+◌, ◌-◌, ◌<◌, ◌≤◌, Bool, true, false, ◌||◌, List, [], ◌∷◌, ◌++◌, length, take, drop, Some, None, nat_lt, if◌then◌else◌, refl, sym, ap, ◌∙◌, subst, arith, length-append, length-take, append_assoc, append-nil, take-append-drop}
+use Rattle.std.proofs.Common.{◌≡◌, ℕ, zero, suc, ◌+◌, ◌-◌, ◌<◌, ◌≤◌, true, false, ◌||◌, List, [], ◌∷◌, ◌++◌, length, take, drop, Some, None, nat_lt, if◌then◌else◌, refl, sym, ap, ◌∙◌, subst, arith, length-append, length-take, append_assoc, append-nil, take-append-drop}
 use Rattle.std.specs.Prelude.{flat_map}
 use Rattle.std.specs.List.{AllByRecursion}
-use Rattle.std.proofs.lemmas.Bool.{le-ltb, ltb-false}
-use Rattle.std.proofs.lemmas.List.{take_at, drop_at}
+use Rattle.std.proofs.lemmas.Bool.{le-ltb, ltb-false, or_parts, or_from}
+use Rattle.std.proofs.lemmas.List.{drop_at}
 use Rattle.narc_bits.specs.Octets.{IsOctets}
 use Rattle.narc_bits.proofs.Octets.{IsOctets-append, IsOctets-take}
 use Rattle.narc_packet.proofs.OptionLists.{ip_options_in-append}
-use Rattle.narc_packet.specs.Options.{IpOptionView, IpNop, IpOther, ip_option, IsIpOption, IsListEnd, is_bad_option, option_rest, bad_option_from, options_from, ip_options_in, AreIpOptions}
+use Rattle.narc_packet.specs.Options.{IpOptionView, IpNop, IpOther, ip_option, IsIpOption, IsListEnd, is_bad_option, option_rest, bad_option_from, ip_options_in, AreIpOptions}
 
 -- behind `skip` octets a bad option is found in what is left
 bad_behind : (skip place : ℕ) (l : List ℕ) → bad_option_from skip place l ≡ bad_option_from 0 (place + skip) (drop skip l)
@@ -15,21 +15,10 @@ bad_behind zero place l = ap (λ p. bad_option_from 0 p l) (omega arith)
 bad_behind (suc skip) place [] = refl
 bad_behind (suc skip) place (octet ∷ l) = bad_behind skip (place + 1) l ∙ ap (λ p. bad_option_from 0 p (drop skip l)) (omega arith)
 
-either_false : (a b : Bool) → a ≡ false → b ≡ false → (a || b) ≡ false
-either_false a b h k = ap (λ t. t || b) h ∙ k
-
-left_false : (a b : Bool) → (a || b) ≡ false → a ≡ false
-left_false true b h = cc
-left_false false b h = refl
-
-right_false : (a b : Bool) → (a || b) ≡ false → b ≡ false
-right_false true b h = cc
-right_false false b h = h
-
 -- an option with its data is not bad
 other_good : (octets later : List ℕ) → (nat_lt (2 + length octets) 2 || nat_lt (2 + length (octets ++ later)) (2 + length octets)) ≡ false
 other_good octets later =
-    either_false (nat_lt (2 + length octets) 2) (nat_lt (2 + length (octets ++ later)) (2 + length octets))
+    or_from (nat_lt (2 + length octets) 2) (nat_lt (2 + length (octets ++ later)) (2 + length octets))
     (le-ltb (2 + length octets) 2 (omega arith)) (le-ltb (2 + length (octets ++ later)) (2 + length octets) (omega (arith, length-append octets later)))
 
 -- what is left behind the data
@@ -104,8 +93,8 @@ option_there (zero ∷ l) each short more good = absurd (more refl)
 option_there (suc zero ∷ l) each short more good = record { option = IpNop; is = tt; later = l; joined = refl }
 option_there (suc (suc kind) ∷ []) each short more good = cc
 option_there (suc (suc kind) ∷ len ∷ l) each short more good =
-    let least = ltb-false len 2 (left_false (nat_lt len 2) (nat_lt (2 + length l) len) good) in
-    let most = ltb-false (2 + length l) len (right_false (nat_lt len 2) (nat_lt (2 + length l) len) good) in
+    let least = ltb-false len 2 (or_parts (nat_lt len 2) (nat_lt (2 + length l) len) good).0 in
+    let most = ltb-false (2 + length l) len (or_parts (nat_lt len 2) (nat_lt (2 + length l) len) good).1 in
     let octets = take (len - 2) l in
     let size : len ≡ 2 + length octets = omega (arith, least, most, length-take (len - 2) l) in
     record {

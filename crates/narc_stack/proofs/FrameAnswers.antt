@@ -7,64 +7,55 @@ use Rattle.narc_bits.proofs.Numbers.{length-bits}
 use Rattle.narc_format.specs.Faults.{fault_at}
 use Rattle.narc_format.specs.declared.fault.Fault.{Fault}
 use Rattle.narc_format.specs.Reading.{TookAll, Refused}
-use Rattle.narc_compose.specs.Seq.{seq_tail}
+use Rattle.narc_scalar.specs.Octets.{fixed_octets}
+use Rattle.narc_scalar.specs.Tested.{tested}
+use Rattle.narc_scalar.specs.Word.{word}
+use Rattle.narc_compose.specs.Gap.{gapped}
+use Rattle.narc_compose.specs.Measured.{measured}
+use Rattle.narc_compose.specs.Named.{named}
+use Rattle.narc_compose.specs.Seq.{seq, seq_tail}
 use Rattle.narc_compose.specs.Strip.{stripped}
 use Rattle.narc_compose.specs.Union.{united}
 use Rattle.narc_list.specs.Bytes.{all_octets}
 use Rattle.narc_list.specs.Pad.{padding}
+use Rattle.narc_list.specs.Region.{region}
+use Rattle.narc_list.specs.Until.{until}
+use Rattle.narc_sum.specs.Checked.{checked, checked_or_none, checked_tail}
 use Rattle.narc_packet.specs.Answer.{IsOnlyAnswer}
-use Rattle.narc_packet.specs.declared.packet.EthBody.{EthBody}
-use Rattle.narc_packet.specs.declared.packet.EthBody.TheVariants as eth_body
 use Rattle.narc_packet.specs.declared.packet.Packet.{Packet}
 use Rattle.narc_packet.specs.Frame.{IsFrame}
-use Rattle.narc_packet.specs.PacketView.{PacketView, EthBodyView, ArpBody, OtherBody, eth_body_view, view}
+use Rattle.narc_packet.specs.PacketView.{PacketView, view}
 use Rattle.narc_format.specs.Rows.{RefusalView}
 use Rattle.narc_packet.specs.Refusal.{refusal}
 use Rattle.narc_layout.proofs.Rows.{told}
 use Rattle.narc_eth.proofs.HeaderLayout.{eth_head_layout}
 use Rattle.narc_eth.proofs.ArpLayout.{arp_layout}
-use Rattle.narc_stack.specs.Unbuilt.{unbuilt_at}
+use Rattle.narc_ipv4.specs.Header.{ip_head}
+use Rattle.narc_transport.specs.Parts.{udp_part, tcp_part}
+use Rattle.narc_stack.specs.Ipv4Part.{ipv4_part}
 use Rattle.narc_stack.specs.WholeFrame.{whole_frame}
 use Rattle.narc_stack.proofs.FrameSound.{frame_sound, frame_laws}
-use Rattle.narc_stack.proofs.FrameOctets.{frame_stands}
-use Rattle.narc_stack.proofs.FrameRows.{frame_refuses}
+use Rattle.narc_stack.proofs.FrameSeen.{packet_seen}
+use Rattle.narc_stack.proofs.FrameRelation.{frame_stands, frame_refuses}
 
--- a packet with this view, whose octets lie anywhere
-body_seen_as : EthBodyView → EthBody
-body_seen_as (ArpBody a) = eth_body.Arp a
-body_seen_as (OtherBody t payload) = eth_body.Other t (record { ref_ptr = (0, 0); now = payload })
-
-seen_as : PacketView → Packet
-seen_as p = record { dst = p.dst; src = p.src; body = body_seen_as p.body }
-
-body_view_back : (v : EthBodyView) → eth_body_view (body_seen_as v) ≡ v
-unfolding body_seen_as
-body_view_back (ArpBody a) = refl
-body_view_back (OtherBody t payload) = refl
-
-with_body : PacketView → EthBodyView → PacketView
-with_body p v = record p { body = v }
-
-view_back : (p : PacketView) → view (seen_as p) ≡ p
-unfolding seen_as with_body
-view_back p = ap (with_body p) (body_view_back p.body)
-
-module _ (b : List ℕ) (each : IsOctets b) (built : unbuilt_at b ≡ None) where
-  stood : (p : PacketView) → IsFrame p b → whole_frame.stands tt (seen_as p) (bits b)
-  stood p f = (frame_stands (seen_as p) b each built).1 (subst (λ q. IsFrame q b) (sym (view_back p)) f)
+module _ (b : List ℕ) (each : IsOctets b) where
+  stood : (q : PacketView) (f : IsFrame q b) → whole_frame.stands tt (packet_seen q b f).packet (bits b)
+  stood q f =
+      let seen = packet_seen q b f in
+      (frame_stands seen.packet b each).1 (subst (λ v. IsFrame v b) (sym seen.same) f, seen.spelled)
 
   same_view : (p : Packet) (q : PacketView) → whole_frame.stands tt p (bits b) → IsFrame q b → view p ≡ q
   unfolding stripped
-  same_view p q s f = frame_laws.one_reading frame_sound tt p (seen_as q) (bits b) s (stood q f) ∙ view_back q
+  same_view p q s f = let seen = packet_seen q b f in frame_laws.one_reading frame_sound tt p seen.packet (bits b) s (stood q f) ∙ seen.same
 
   fault_of : (r : RefusalView) → refusal b ≡ Some r → whole_frame.refuses tt (bits b) (fault_at r.field (8 * r.at))
   fault_of r h = let place : r.at ≡ 0 + r.at = omega arith in (frame_refuses b each (fault_at r.field (8 * r.at))).1 (record { octet = r.at; first = h ∙ ap (told r.field) place; place = refl })
 
   pub one_packet : (p q : PacketView) → IsFrame p b → IsFrame q b → p ≡ q
-  one_packet p q f g = sym (view_back p) ∙ same_view (seen_as p) q (stood p f) g
+  one_packet p q f g = let seen = packet_seen p b f in sym seen.same ∙ same_view seen.packet q (stood p f) g
 
   pub never_both : (p : PacketView) (r : RefusalView) → IsFrame p b → refusal b ≡ Some r → ⊥
-  never_both p r f h = frame_laws.never_both frame_sound tt (seen_as p) (bits b) (fault_at r.field (8 * r.at)) (stood p f) (fault_of r h)
+  never_both p r f h = frame_laws.never_both frame_sound tt (packet_seen p b f).packet (bits b) (fault_at r.field (8 * r.at)) (stood p f) (fault_of r h)
 
   pub unrefused : (p : PacketView) → IsFrame p b → refusal b ≡ None
   unrefused p f = at (refusal b) refl where
@@ -74,9 +65,9 @@ module _ (b : List ℕ) (each : IsOctets b) (built : unbuilt_at b ≡ None) wher
 
   pub only_packet : (p : Packet) → whole_frame.stands tt p (bits b) → IsOnlyAnswer b (Ok (view p))
   only_packet p s = record {
-    right = (frame_stands p b each built).0 s;
+    right = ((frame_stands p b each).0 s).0;
     packet = λ q f. ap Ok (same_view p q s f);
-    refused = λ r h. absurd (never_both (view p) r ((frame_stands p b each built).0 s) h);
+    refused = λ r h. absurd (never_both (view p) r (((frame_stands p b each).0 s).0) h);
   }
 
   told_fault : (f : Fault) → whole_frame.refuses tt (bits b) f → refusal b ≡ Some (record { field = f.field; at = f.at / 8 })
@@ -98,13 +89,29 @@ module _ (b : List ℕ) (each : IsOctets b) (built : unbuilt_at b ≡ None) wher
   pub either : length b ≤ 262144 → ((p : PacketView) × IsFrame p b) ⊎ ((r : RefusalView) × (refusal b ≡ Some r))
   unfolding stripped seq_tail
   either small = elim (frame_laws.read_or_refused frame_sound tt tt (bits b) (record { small = omega (arith, small, length-bits b); octets = λ h. omega (arith, length-bits b) })) [
-    | inl r ↦ inl (view r.found, (frame_stands r.found b each built).0 r.stood)
+    | inl r ↦ inl (view r.found, ((frame_stands r.found b each).0 r.stood).0)
     | inr r ↦ inr (record { field = r.fault.field; at = r.fault.at / 8 }, told_fault r.fault r.refused)
   ]
 
-frame_depth : whole_frame.depth ≡ 0
+head_depth : ip_head.depth ≡ 2
+unfolding stripped named checked seq gapped tested word fixed_octets region until united measured all_octets padding
+head_depth = refl
+
+udp_depth : udp_part.depth ≡ 1
+unfolding udp_part stripped seq_tail named checked_or_none seq gapped tested word region measured all_octets padding
+udp_depth = refl
+
+tcp_depth : tcp_part.depth ≡ 2
+unfolding tcp_part stripped named checked_tail seq_tail seq gapped tested word region until united measured all_octets padding
+tcp_depth = refl
+
+ipv4_depth : ipv4_part.depth ≡ 2
+unfolding ipv4_part stripped measured seq_tail region united padding all_octets
+ipv4_depth = omega (arith, head_depth, udp_depth, tcp_depth)
+
+frame_depth : whole_frame.depth ≡ 2
 unfolding stripped seq_tail united padding all_octets
-frame_depth = omega (arith, eth_head_layout.shape.depth, arp_layout.shape.depth)
+frame_depth = omega (arith, eth_head_layout.shape.depth, arp_layout.shape.depth, ipv4_depth)
 
 -- a reading from the first octet on
 module _ (b : List ℕ) (old new : Scan) (before after : ℕ) (start : old ≡ record { octets = b; place = 0 }) where

@@ -1,31 +1,42 @@
--- The conditions of the frame's rules hold, and so do their laws.
-use Rattle.std.proofs.Common.{◌≡◌, ℕ, ◌%◌, ◌^◌, ◌<◌, ◌↔◌, Bool, true, false, nat_eq, if◌then◌else◌, refl, sym, ap, ◌∙◌, subst, arith, lit<}
+-- The conditions of the frame's rules hold.
+use Rattle.std.proofs.Common.{◌≡◌, ℕ, ◌%◌, ◌^◌, ◌<◌, Bool, true, false, nat_eq, if◌then◌else◌, refl, sym, ap, ◌∙◌, subst, arith, lit<}
+use Rattle.std.specs.Borrow.{Bor}
 use Rattle.std.proofs.Math.Nat.{mod-eq_of_lt}
+use Rattle.std.proofs.lemmas.Bool.{eqb-true}
+use Rattle.std.specs.Prelude.{List}
 use Rattle.narc_format.specs.Laws.{TailLaws}
+use Rattle.narc_compose.specs.declared.either.Either.{Either}
 use Rattle.narc_compose.specs.declared.either.Either.TheVariants.{Left, Right}
 use Rattle.narc_compose.specs.Seq.{seq_tail}
-use Rattle.narc_compose.specs.SeqTailLaws.{seq_tail_laws}
+use Rattle.narc_compose.specs.Measured.{measured}
 use Rattle.narc_compose.specs.Strip.{stripped, Chosen}
+use Rattle.narc_compose.specs.SeqTailLaws.{seq_tail_laws}
 use Rattle.narc_compose.specs.StripLaws.{stripped_tail_laws}
-use Rattle.narc_compose.specs.Union.{Side, united}
+use Rattle.narc_compose.specs.Union.{Side, Sides, united}
 use Rattle.narc_compose.specs.UnionTailLaws.{united_tail_laws}
-use Rattle.narc_list.specs.Bytes.{all_octets}
 use Rattle.narc_list.specs.BytesLaws.{all_octets_laws}
-use Rattle.narc_list.specs.Pad.{padding}
 use Rattle.narc_list.specs.PadLaws.{padding_laws}
-use Rattle.narc_packet.specs.Frame.{arp_type}
-use Rattle.narc_packet.specs.PacketView.{PacketView, EthBodyView, OtherBody, eth_body_view}
+use Rattle.narc_list.specs.Bytes.{all_octets}
+use Rattle.narc_list.specs.Pad.{padding}
+use Rattle.narc_packet.specs.Frame.{arp_type, ipv4_type}
+use Rattle.narc_packet.specs.PacketView.{PacketView, EthBodyView, Ipv4Body, OtherBody, eth_body_view}
+use Rattle.narc_packet.specs.declared.packet.Ipv4.{Ipv4}
 use Rattle.narc_eth.specs.ArpPacket.{arp_format}
-use Rattle.narc_eth.specs.EthernetHeader.{Header, IsHeaderInRange, eth_head}
+use Rattle.narc_eth.specs.EthernetHeader.{Header, eth_head}
 use Rattle.narc_eth.proofs.HeaderLayout.{eth_head_layout}
 use Rattle.narc_eth.proofs.ArpLayout.{arp_layout}
+use Rattle.narc_stack.specs.Ipv4Part.{ipv4_part, ipv4_part_laws}
 use Rattle.narc_stack.specs.RawFrame.{RawBody, RawFrame, body_of, type_of, raw_body, packet_of, raw_frame, SamePacket}
-use Rattle.narc_stack.specs.WholeFrame.{padded_arp, by_type, frame_body, header_and_body, whole_frame}
-use Rattle.narc_stack.proofs.Bodies.{IsBody, body_admits}
+use Rattle.narc_stack.specs.WholeFrame.{padded_arp, by_type, by_ipv4, ipv4_or_other, frame_body, header_and_body, whole_frame}
+use Rattle.narc_stack.proofs.Ipv4Sound.{ipv4_sound}
 
-member_valid : (is_arp : Bool) → Side {A = Unit {0}} {B = Unit {0}} (λ a. Unit {0}) (λ z. Unit {0}) (if is_arp then Left tt else Right tt)
-member_valid true = tt
-member_valid false = tt
+ipv4_part_sound : ipv4_part.sound
+unfolding ipv4_part
+ipv4_part_sound = ipv4_sound
+
+ipv4_part_valid : ipv4_part.valid tt
+unfolding ipv4_part stripped measured
+ipv4_part_valid = tt
 
 padded_sound : padded_arp.sound
 unfolding seq_tail padding
@@ -36,9 +47,23 @@ padded_sound = record {
   meets = arp_layout.shape.whole;
 }
 
+ipv4_picked : (t : Bool) → Side ipv4_part.valid all_octets.valid (if t then Left tt else Right tt)
+unfolding all_octets
+ipv4_picked true = ipv4_part_valid
+ipv4_picked false = tt
+
+other_sound : ipv4_or_other.sound
+unfolding united all_octets
+other_sound = record { left_sound = ipv4_part_sound; right_sound = tt; picked = λ t ok. ipv4_picked (nat_eq t ipv4_type) }
+
+type_picked : (n : ℕ) → n < 2 ^ 64 → (t : Bool) → Side padded_arp.valid ipv4_or_other.valid (if t then Left tt else Right n)
+unfolding seq_tail united
+type_picked n h true = tt
+type_picked n h false = h
+
 body_sound : frame_body.sound
-unfolding united seq_tail all_octets
-body_sound = record { left_sound = padded_sound; right_sound = tt; picked = λ t ok. member_valid (nat_eq t arp_type) }
+unfolding united
+body_sound = record { left_sound = padded_sound; right_sound = other_sound; picked = λ t ok. type_picked t ok (nat_eq t arp_type) }
 
 raw_sound : header_and_body.sound
 unfolding seq_tail united
@@ -54,10 +79,17 @@ raw_sound = record {
 }
 
 -- a body that is the same is seen as the same
+same_other : (t : ℕ) (v w : Either Ipv4 (Bor (List ℕ))) → ipv4_or_other.alike v w → eth_body_view (body_of t (Right v)) ≡ eth_body_view (body_of t (Right w))
+unfolding united all_octets ipv4_part stripped
+same_other t (Left p) (Left q) h = ap Ipv4Body h
+same_other t (Left p) (Right l) h = absurd h
+same_other t (Right l) (Left p) h = absurd h
+same_other t (Right l) (Right k) h = ap (OtherBody (t % 65536)) h
+
 same_body : (t : ℕ) (v w : RawBody) → frame_body.alike v w → eth_body_view (body_of t v) ≡ eth_body_view (body_of t w)
-unfolding united seq_tail all_octets
+unfolding united seq_tail
 same_body t (Left a) (Left b) h = ap (λ x. eth_body_view (body_of t (Left (x, tt)))) (arp_layout.shape.alike a.0 b.0 h.0)
-same_body t (Right y) (Right z) h = ap (OtherBody (t % 65536)) h
+same_body t (Right y) (Right z) h = same_other t y z h
 same_body t (Left a) (Right z) h = absurd h
 same_body t (Right y) (Left b) h = absurd h
 
@@ -70,34 +102,37 @@ same_packet v w a =
     let same = eth_head_layout.shape.alike v.0 w.0 a.0 in
     ap (with_body v.0) (same_body v.0.1.1 v.1 w.1 a.1) ∙ ap (λ (h : Header). with_body h (eth_body_view (body_of h.1.1 w.1))) same
 
--- values of the fields that can be written
-abbrev pub IsRawInRange : RawFrame → Type 0
-IsRawInRange w = IsHeaderInRange w.0 × IsBody w.0.1.1 w.1
-
-pub raw_admits : (w : RawFrame) → header_and_body.admits tt w ↔ IsRawInRange w
-unfolding seq_tail
-raw_admits w = (
-  λ a. ((eth_head_layout.shape.admits w.0).0 a.1, (body_admits w.0.1.1 w.1).0 a.2),
-  λ h. (tt, (eth_head_layout.shape.admits w.0).1 h.0, (body_admits w.0.1.1 w.1).1 h.1),
-)
-
 -- the type of the body is that of the header
-type_back : (t : ℕ) (v : RawBody) → t < 2 ^ 16 → IsBody t v → type_of (body_of t v) ≡ t
-type_back t (Left a) small h = sym h.0
-type_back t (Right y) small h = mod-eq_of_lt small
+ipv4_back : (t : ℕ) (b : Bool) → nat_eq t ipv4_type ≡ b → (v : Either Ipv4 (Bor (List ℕ))) → t < 2 ^ 16
+    → Sides ipv4_part.admits all_octets.admits (if b then Left tt else Right tt) v → type_of (body_of t (Right v)) ≡ t
+ipv4_back t true e (Left p) small a = sym (eqb-true t ipv4_type e)
+ipv4_back t true e (Right l) small a = absurd a
+ipv4_back t false e (Left p) small a = absurd a
+ipv4_back t false e (Right l) small a = mod-eq_of_lt small
+
+type_back : (t : ℕ) (b : Bool) → nat_eq t arp_type ≡ b → (v : RawBody) → t < 2 ^ 16
+    → Sides padded_arp.admits ipv4_or_other.admits (if b then Left tt else Right t) v → type_of (body_of t v) ≡ t
+unfolding united
+type_back t true e (Left a) small h = sym (eqb-true t arp_type e)
+type_back t true e (Right y) small h = absurd h
+type_back t false e (Left a) small h = absurd h
+type_back t false e (Right y) small h = ipv4_back t (nat_eq t ipv4_type) refl y small h
 
 body_back : (t : ℕ) (v : RawBody) → raw_body (body_of t v) ≡ v
 body_back t (Left a) = refl
-body_back t (Right y) = refl
+body_back t (Right (Left p)) = refl
+body_back t (Right (Right l)) = refl
 
-pub raw_back : (w : RawFrame) → IsRawInRange w → raw_frame (packet_of w) ≡ w
-raw_back w h =
-    ap (λ t. (((w.0.0, (w.0.1.0, t)), raw_body (body_of w.0.1.1 w.1)))) (type_back w.0.1.1 w.1 h.0.1.1 h.1)
+raw_back : (w : RawFrame) → header_and_body.admits tt w → raw_frame (packet_of w) ≡ w
+unfolding seq_tail united
+raw_back w a =
+    let h = (eth_head_layout.shape.admits w.0).0 a.1 in
+    ap (λ t. (((w.0.0, (w.0.1.0, t)), raw_body (body_of w.0.1.1 w.1)))) (type_back w.0.1.1 (nat_eq w.0.1.1 arp_type) refl w.1 h.1.1 a.2)
     ∙ ap (λ v. (w.0, v)) (body_back w.0.1.1 w.1)
 
 chosen : (w : RawFrame) → header_and_body.admits tt w → Chosen packet_of (λ c p. raw_frame p) SamePacket header_and_body tt (packet_of w)
 chosen w a =
-    let back = raw_back w ((raw_admits w).0 a) in
+    let back = raw_back w a in
     record { admitted = subst (header_and_body.admits tt) (sym back) a; back = ap packet_of back }
 
 pub frame_sound : whole_frame.sound
@@ -108,6 +143,7 @@ pub frame_laws : TailLaws whole_frame
 frame_laws =
     let here : Unit {0} → Unit {0} = λ c. c in
     let padded = seq_tail_laws here (λ c a. 18) (λ c. Unit {0}) arp_format padding arp_layout.shape.laws padding_laws in
-    let body = united_tail_laws by_type (λ t. t < 2 ^ 64) padded_arp all_octets padded all_octets_laws in
+    let other = united_tail_laws by_ipv4 (λ t. t < 2 ^ 64) ipv4_part all_octets ipv4_part_laws all_octets_laws in
+    let body = united_tail_laws by_type (λ t. t < 2 ^ 64) padded_arp ipv4_or_other padded other in
     stripped_tail_laws packet_of (λ c p. raw_frame p) SamePacket header_and_body
     (seq_tail_laws here (λ c (h : Header). h.1.1) (λ c. Unit {0}) eth_head frame_body eth_head_layout.shape.laws body)

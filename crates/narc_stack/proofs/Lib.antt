@@ -1,7 +1,11 @@
-pub mod Bodies
+pub mod ContentRead
+pub mod Ipv4Octets
+pub mod Ipv4Read
+pub mod Ipv4Relation
+pub mod FrameRead
+pub mod FrameRelation
+pub mod ContentSound
+pub mod Ipv4Sound
 pub mod FrameSound
-pub mod FrameOctets
-pub mod FrameRows
+pub mod FrameSeen
 pub mod FrameAnswers
-pub mod FrameAdmits
-pub mod FrameWritten

@@ -1,5 +1,7 @@
 pub mod AnswerView
-pub mod Unbuilt
+pub mod Content
+pub mod Ipv4
+pub mod Ipv4Part
 pub mod RawFrame
 pub mod WholeFrame
 pub mod Admitted

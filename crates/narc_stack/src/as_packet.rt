@@ -1,15 +1,15 @@
 //! The packet that a frame's fields are.
 ghost use Rattle.narc_stack.specs.RawFrame.{packet_of, raw_frame, SamePacket};
 
-use crate::frame::ARP;
+use crate::frame::{ARP, IPV4};
 use narc_compose::{Choose, Either};
-use narc_packet::{Arp, EthBody, Packet};
+use narc_packet::{Arp, EthBody, Ipv4, Packet};
 
 /// The fields of an Ethernet header: destination, source and type.
 pub(crate) type Header = ([u8; 6], ([u8; 6], u64));
 
-/// An ARP packet before its padding, or the data of another type.
-type Body<'a> = Either<(Arp, ()), &'a [u8]>;
+/// An ARP packet before its padding, an IPv4 packet, or the data of another type.
+type Body<'a> = Either<(Arp, ()), Either<Ipv4<'a>, &'a [u8]>>;
 
 /// The fields of a frame as its packet.
 pub struct AsPacket;
@@ -27,7 +27,8 @@ impl<'a> Choose<(), (Header, Body<'a>)> for AsPacket {
         let ((dst, (src, ether_type)), body) = raw;
         let body = match body {
             Either::Left((arp, ())) => EthBody::Arp(arp),
-            Either::Right(payload) => EthBody::Other {
+            Either::Right(Either::Left(packet)) => EthBody::Ip(packet),
+            Either::Right(Either::Right(payload)) => EthBody::Other {
                 ether_type: (ether_type % 65536) as u16,
                 payload,
             },
@@ -38,10 +39,14 @@ impl<'a> Choose<(), (Header, Body<'a>)> for AsPacket {
     fn choose(_ctx: (), packet: &Packet<'a>) -> (Header, Body<'a>) {
         let (ether_type, body) = match &packet.body {
             EthBody::Arp(arp) => (ARP, Either::Left((*arp, ()))),
+            EthBody::Ip(packet) => (IPV4, Either::Right(Either::Left(*packet))),
             EthBody::Other {
                 ether_type,
                 payload,
-            } => (u64::from(*ether_type), Either::Right(*payload)),
+            } => (
+                u64::from(*ether_type),
+                Either::Right(Either::Right(*payload)),
+            ),
         };
         ((packet.dst, (packet.src, ether_type)), body)
     }

@@ -1,8 +1,7 @@
 //! Reading whole frames.
-ghost use Rattle.std.specs.Prelude.{◌≡◌, ◌+◌, ◌*◌, ◌≤◌, length, None};
+ghost use Rattle.std.specs.Prelude.{◌≡◌, ◌+◌, ◌*◌, ◌≤◌, length};
 ghost use Rattle.narc_packet.specs.Answer.{IsAnswer, IsOnlyAnswer};
 ghost use Rattle.narc_stack.specs.AnswerView.{answer_view};
-ghost use Rattle.narc_stack.specs.Unbuilt.{unbuilt_at};
 
 use crate::frame::Frame;
 use crate::refusal::Refusal;
@@ -11,16 +10,16 @@ use narc_format::Tail;
 use narc_packet::Packet;
 use std::sync::ledger::Ledger;
 
-/// The packet that at most `MAX_FRAME` octets are an Ethernet II frame of (RFC 894, and RFC 826 for ARP).
+/// The packet that at most `MAX_FRAME` octets are an Ethernet II frame of (RFC 894): ARP (RFC 826), or IPv4 (RFC 791) with
+/// UDP (RFC 768), TCP (RFC 793) or other data.
 ///
-/// The refusal names the first field in layout order without an admissible reading. A frame of IPv4 is not read yet:
-/// `unbuilt` tells it. The steps rise by at most 16 for each octet and one more.
+/// The refusal names the first field in layout order without an admissible reading. The steps rise by at most 16 for each
+/// octet and one more.
 pub fn decode_frame<'a, L: Ledger>(
     bytes: &'a [u8],
     steps: &mut Steps<L>,
 ) -> Result<Packet<'a>, Refusal>
     requires small { length bytes.now ≤ MAX_FRAME }
-    requires built { unbuilt_at bytes.now ≡ None }
     ensures answer { IsAnswer bytes.now (answer_view result) }
     ensures only { IsOnlyAnswer bytes.now (answer_view result) }
     ensures cost { steps.new ≤ steps.old + 16 * length bytes.now + 1 }

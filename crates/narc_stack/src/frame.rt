@@ -3,20 +3,19 @@ ghost use Rattle.std.specs.Prelude.{◌≡◌, ◌↔◌, ◌⊎◌, ℕ, ◌<�
 ghost use Rattle.narc_bits.specs.Octets.{IsOctets};
 ghost use Rattle.narc_bits.specs.Bits.{bits};
 ghost use Rattle.narc_format.specs.declared.fault.Fault.{Fault};
+ghost use Rattle.narc_format.specs.Rows.{RefusalView};
+ghost use Rattle.narc_layout.specs.FirstFault.{IsFirstFault};
 ghost use Rattle.narc_packet.specs.declared.packet.Packet.{Packet};
 ghost use Rattle.narc_packet.specs.PacketView.{PacketView, view};
+ghost use Rattle.narc_packet.specs.WellFormed.{SpellsOptions};
 ghost use Rattle.narc_packet.specs.Frame.{IsFrame};
-ghost use Rattle.narc_format.specs.Rows.{RefusalView};
 ghost use Rattle.narc_packet.specs.Refusal.{rows_for, refusal};
-ghost use Rattle.narc_layout.specs.FirstFault.{IsFirstFault};
-ghost use Rattle.narc_stack.specs.WholeFrame.{by_type};
-ghost use Rattle.narc_stack.specs.Unbuilt.{unbuilt_at};
-ghost use Rattle.narc_stack.specs.Admitted.{IsAdmitted};
-ghost use Rattle.narc_stack.specs.Written.{written};
+ghost use Rattle.narc_stack.specs.WholeFrame.{by_type, by_ipv4};
 
 use crate::as_packet::{AsPacket, Header};
+use crate::ipv4_part::Ipv4Part;
 use narc_bits::Cursor;
-use narc_compose::{Carry, Either, Pick, SeqTail, Strip, Union};
+use narc_compose::{Carry, Either, Parted, Pick, SeqTail, Strip, Union};
 use narc_eth::{ArpFormat, EthHead};
 use narc_format::Tail;
 use narc_list::{Bytes, Pad};
@@ -25,13 +24,22 @@ use narc_packet::Arp;
 /// The Ethernet type of ARP (RFC 826).
 pub(crate) const ARP: u64 = 0x0806;
 
+/// The Ethernet type of IPv4 (RFC 894).
+pub(crate) const IPV4: u64 = 0x0800;
+
 /// An ARP packet, and any padding behind it.
 type PaddedArp = SeqTail<ArpFormat, Pad, ShortestFrame>;
 
+/// An IPv4 packet and any padding behind it, or data that is kept unread.
+type Ipv4OrOther = Union<ByIpv4, Parted<Ipv4Part>, Bytes>;
+
 /// A whole Ethernet II frame (RFC 894): the header, and what its type says.
 ///
-/// ARP is read (RFC 826), with any octets behind it. The data of every other type is kept unread.
-pub type Frame = Strip<SeqTail<EthHead, Union<ByType, PaddedArp, Bytes>, TypeOfHeader>, AsPacket>;
+/// ARP (RFC 826) and IPv4 (RFC 791) are read, with any octets behind them. The data of every other type is kept unread.
+pub type Frame = Strip<
+    SeqTail<EthHead, Union<ByType, PaddedArp, Ipv4OrOther>, TypeOfHeader>,
+    AsPacket,
+>;
 
 /// Padding that fills a frame of 60 octets behind 14 of the header and 28 of ARP.
 pub struct ShortestFrame;
@@ -71,18 +79,37 @@ impl Carry<Header, (), u64> for TypeOfHeader {
     }
 }
 
-/// ARP, or data that is kept unread.
+/// ARP, or another type.
 pub struct ByType;
 
-impl Pick<(), ()> for ByType {
+impl Pick<(), u64> for ByType {
     type Ctx = u64;
 
     ghost pick_of = { by_type };
 
     ghost valid = { λ ether_type. ether_type < 2 ^ 64 };
 
-    fn pick(ether_type: u64) -> Either<(), ()> {
+    fn pick(ether_type: u64) -> Either<(), u64> {
         if ether_type == ARP {
+            Either::Left(())
+        } else {
+            Either::Right(ether_type)
+        }
+    }
+}
+
+/// IPv4, or data that is kept unread.
+pub struct ByIpv4;
+
+impl Pick<(), ()> for ByIpv4 {
+    type Ctx = u64;
+
+    ghost pick_of = { by_ipv4 };
+
+    ghost valid = { λ ether_type. ether_type < 2 ^ 64 };
+
+    fn pick(ether_type: u64) -> Either<(), ()> {
+        if ether_type == IPV4 {
             Either::Left(())
         } else {
             Either::Right(())
@@ -95,9 +122,9 @@ pub fn frame_is_sound()
     ensures { ⟦<Frame as Tail<Cursor<'static>>>⟧.meaning.sound }
 {}
 
-/// Octets stand for a packet exactly where they are a frame of it.
+/// Octets stand for a packet exactly where they are a frame of it, and its slices of options spell them and nothing else.
 pub fn frame_is_its_octets()
-    ensures { (p : Packet) (b : List ℕ) → IsOctets b → unbuilt_at b ≡ None → ⟦<Frame as Tail<Cursor<'static>>>⟧.meaning.stands tt p (bits b) ↔ IsFrame (view p) b }
+    ensures { (p : Packet) (b : List ℕ) → IsOctets b → ⟦<Frame as Tail<Cursor<'static>>>⟧.meaning.stands tt p (bits b) ↔ (IsFrame (view p) b × SpellsOptions p) }
 {}
 
 /// Octets are refused exactly where a row fails, with the field and the place of the first.
@@ -107,17 +134,7 @@ pub fn frame_is_refused_by_row()
 
 /// Octets are a frame of one packet, or they are refused, and never both.
 pub fn octets_are_a_frame_or_refused()
-    ensures either { (b : List ℕ) → IsOctets b → length b ≤ 262144 → unbuilt_at b ≡ None → ((p : PacketView) × IsFrame p b) ⊎ ((r : RefusalView) × (refusal b ≡ Some r)) }
-    ensures never_both { (b : List ℕ) (p : PacketView) → unbuilt_at b ≡ None → IsFrame p b → refusal b ≡ None }
-    ensures one_packet { (b : List ℕ) (p q : PacketView) → unbuilt_at b ≡ None → IsFrame p b → IsFrame q b → p ≡ q }
-{}
-
-/// A packet can be written exactly where its numbers lie in their ranges.
-pub fn frame_admits_its_packets()
-    ensures { (p : Packet) → ⟦<Frame as Tail<Cursor<'static>>>⟧.meaning.admits tt p ↔ IsAdmitted (view p) }
-{}
-
-/// What is written for a packet: its octets, and for ARP octets 0 behind them, up to 60.
-pub fn frame_is_written_with_padding()
-    ensures { (p : Packet) → IsAdmitted (view p) → ⟦<Frame as Tail<Cursor<'static>>>⟧.meaning.spelling tt p ≡ bits (written (view p)) }
+    ensures either { (b : List ℕ) → IsOctets b → length b ≤ 262144 → ((p : PacketView) × IsFrame p b) ⊎ ((r : RefusalView) × (refusal b ≡ Some r)) }
+    ensures never_both { (b : List ℕ) (p : PacketView) → IsFrame p b → refusal b ≡ None }
+    ensures one_packet { (b : List ℕ) (p q : PacketView) → IsFrame p b → IsFrame q b → p ≡ q }
 {}

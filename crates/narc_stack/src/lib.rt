@@ -1,19 +1,23 @@
 //! Whole frames: which packet the octets are a frame of, or which field is refused.
 #![tactic(auto)]
 
+mod as_ipv4;
 mod as_packet;
+mod content;
 mod decode;
 mod frame;
+mod ipv4;
+mod ipv4_part;
 mod refusal;
-#[cfg(test)]
-mod tests;
-mod unread;
 
+pub use as_ipv4::AsIpv4;
 pub use as_packet::AsPacket;
+pub use content::{ByTcp, ByUdp, Content, ContentOctets, IpContent};
 pub use decode::decode_frame;
 pub use frame::{
-    ByType, Frame, ShortestFrame, TypeOfHeader, frame_is_its_octets, frame_is_refused_by_row,
-    frame_is_sound, octets_are_a_frame_or_refused,
+    ByIpv4, ByType, Frame, ShortestFrame, TypeOfHeader, frame_is_its_octets,
+    frame_is_refused_by_row, frame_is_sound, octets_are_a_frame_or_refused,
 };
+pub use ipv4::{ContentOf, Ipv4Format, OctetsThere, ZerosBehind};
+pub use ipv4_part::Ipv4Part;
 pub use refusal::Refusal;
-pub use unread::unbuilt;

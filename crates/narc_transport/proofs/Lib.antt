@@ -10,3 +10,6 @@ pub mod UdpRows
 pub mod TcpRead
 pub mod TcpOctets
 pub mod TcpRows
+pub mod UdpWritten
+pub mod TcpWritten
+pub mod TestEnds

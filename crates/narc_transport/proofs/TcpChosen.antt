@@ -1,6 +1,5 @@
 -- A segment with the shortest area.
-use Rattle.std.proofs.Common.{◌≡◌, ℕ, ◌+◌, ◌-◌, ◌*◌, ◌/◌, ◌%◌, ◌^◌, ◌<◌, ◌≤◌, Bool, true, false, not, ◌&&◌, List, length, IsTrue, nat_lt, refl, sym, ap, ◌∙◌, subst, arith}
-use Rattle.std.specs.Borrow.{Bor}
+use Rattle.std.proofs.Common.{◌≡◌, ℕ, ◌+◌, ◌*◌, ◌/◌, ◌%◌, ◌^◌, ◌<◌, ◌≤◌, Bool, true, false, not, ◌&&◌, length, IsTrue, nat_lt, sym, ap, ◌∙◌, subst, arith}
 use Rattle.std.proofs.lemmas.Bool.{le-ltb, lt-ltb, ltb-true, ltb-false}
 use Rattle.narc_bits.specs.Octets.{IsOctets}
 use Rattle.narc_scalar.specs.Tested.{tested}
@@ -14,14 +13,13 @@ use Rattle.narc_list.specs.Bytes.{all_octets}
 use Rattle.narc_sum.specs.Checked.{checked_tail}
 use Rattle.narc_options.specs.Option.{option_region}
 use Rattle.narc_options.proofs.AreaSound.{region_chosen}
-use Rattle.narc_packet.specs.declared.packet.Tcp.{Tcp}
 use Rattle.narc_layout.proofs.SameRows.{not_true}
 use Rattle.narc_transport.specs.declared.as_tcp.TcpWithOffset.{TcpWithOffset}
 use Rattle.narc_transport.specs.declared.context.Ends.{Ends}
 use Rattle.narc_transport.specs.Context.{IsThere}
-use Rattle.narc_transport.specs.Tcp.{tcp_header_length, tcp_area_length, is_offset, RawTcpFront, RawTcp, tcp_of, raw_tcp, tcp_front, tcp_options, tcp_urgent, tcp_behind, tcp_segment, tcp_summed, tcp_format}
+use Rattle.narc_transport.specs.Tcp.{tcp_header_length, tcp_area_length, is_offset, RawTcpFront, RawTcp, raw_tcp, tcp_front, tcp_segment, tcp_summed, tcp_format}
 use Rattle.narc_transport.specs.Laws.{tcp_summed_laws}
-use Rattle.narc_transport.proofs.TcpSound.{IsTcpFrontInRange, tcp_front_ranges, segment_sound, segment_kept, summed_sound, summed_valid, summed_size}
+use Rattle.narc_transport.proofs.TcpSound.{IsTcpFrontInRange, tcp_front_ranges, segment_kept, summed_sound, summed_valid, summed_size}
 
 and_both : (a b : Bool) → IsTrue a → IsTrue b → IsTrue (a && b)
 and_both true b h k = k
@@ -59,11 +57,15 @@ pub summed_fields : (c : Ends × ℕ) (w : RawTcp) → tcp_summed.admits c w →
 unfolding named checked_tail
 summed_fields c w a = segment_fields c w a.admitted
 
+pub summed_short : (c : Ends × ℕ) (w : RawTcp) → tcp_summed.admits c w → 20 + tcp_area_length w.0.1.0 + length w.1.1.now ≤ 65535
+unfolding named checked_tail
+summed_short c w a = omega (arith, segment_kept c a.valid w a.admitted, a.short)
+
 segment_valid : (c : Ends × ℕ) → IsThere c → tcp_segment.valid c
 unfolding seq_tail
 segment_valid c ok = ok
 
-summed_admits : (c : Ends × ℕ) → IsThere c → (w : RawTcp) → AreFields c w → 20 + tcp_area_length w.0.1.0 + length w.1.1.now ≤ 65535 → tcp_summed.admits c w
+pub summed_admits : (c : Ends × ℕ) → IsThere c → (w : RawTcp) → AreFields c w → 20 + tcp_area_length w.0.1.0 + length w.1.1.now ≤ 65535 → tcp_summed.admits c w
 unfolding named checked_tail
 summed_admits c ok w r short =
     let valid = segment_valid c ok in

@@ -1,32 +1,29 @@
 -- The octets that stand for a segment are those of it.
-use Rattle.std.proofs.Common.{◌≡◌, ℕ, ◌+◌, ◌*◌, ◌-◌, ◌/◌, ◌%◌, ◌^◌, ◌<◌, ◌≤◌, ◌↔◌, Bool, true, not, ◌&&◌, List, [], ◌∷◌, ◌++◌, length, nat_lt, IsTrue, refl, sym, ap, ◌∙◌, subst, arith, length-append}
-use Rattle.std.specs.Prelude.{flat_map}
-use Rattle.std.specs.Borrow.{Bor}
+use Rattle.std.proofs.Common.{◌≡◌, ℕ, ◌+◌, ◌*◌, ◌/◌, ◌%◌, ◌^◌, ◌<◌, ◌≤◌, ◌↔◌, true, List, ◌∷◌, ◌++◌, length, nat_lt, IsTrue, refl, sym, ap, ◌∙◌, subst, arith, length-append}
 use Rattle.std.proofs.Math.Nat.{mod-eq_of_lt}
-use Rattle.std.proofs.lemmas.Bool.{and_parts, and_from, ltb-true, ltb-false, lt-ltb}
+use Rattle.std.proofs.lemmas.Bool.{and_parts, and_from, ltb-true, lt-ltb}
 use Rattle.narc_bits.specs.Octets.{IsOctets, number_of, big_endian}
 use Rattle.narc_bits.specs.InternetSum.{IsGoodSum, is_good_total}
 use Rattle.narc_bits.proofs.Octets.{IsOctets-front, IsOctets-back}
 use Rattle.narc_bits.proofs.Spelled.{length-big_endian}
 use Rattle.narc_layout.proofs.NetworkOrder.{number_of_lt, big_endian-number_of}
-use Rattle.narc_layout.proofs.ReadLayout.{Parts}
 use Rattle.narc_layout.proofs.Sizes.{pair_eq}
 use Rattle.narc_layout.proofs.SumReads.{sum_of_octets, good_behind}
 use Rattle.narc_options.proofs.AreaRead.{IsAreaOf}
 use Rattle.narc_packet.proofs.OptionLists.{AreIpOptions-few}
 use Rattle.narc_packet.proofs.SpelledOptions.{AreTcpOptions-ip, FitArea-tcp_options}
-use Rattle.narc_packet.specs.Options.{tcp_option, tcp_options_in, AreIpOptions, AreTcpOptions, IsTcpArea}
-use Rattle.narc_packet.specs.declared.options.TcpOptions.{TcpOptions}
+use Rattle.narc_packet.specs.Options.{tcp_options_in, AreTcpOptions, IsTcpArea}
 use Rattle.narc_packet.specs.PacketView.{tcp_view}
-use Rattle.narc_packet.specs.Tcp.{IsTcp, tcp_octets, tcp_pseudo_header}
+use Rattle.narc_packet.specs.Ranges.{IsTcpInRange}
+use Rattle.narc_packet.specs.Tcp.{tcp_pseudo_header}
 use Rattle.narc_transport.specs.declared.as_tcp.TcpWithOffset.{TcpWithOffset}
 use Rattle.narc_transport.specs.declared.context.Ends.{Ends}
 use Rattle.narc_transport.specs.Context.{IsEnds}
 use Rattle.narc_transport.specs.Segment.{IsSegment}
-use Rattle.narc_transport.specs.Tcp.{is_offset, tcp_header_length, tcp_area_length, tcp_pseudo_of, RawTcp, tcp_of, raw_tcp}
+use Rattle.narc_transport.specs.Tcp.{tcp_header_length, tcp_area_length, tcp_pseudo_of, RawTcp, tcp_of, raw_tcp}
 use Rattle.narc_transport.proofs.TcpSound.{IsTcpFrontInRange, front_back}
 use Rattle.narc_transport.proofs.TcpChosen.{offset_fits, offset_least}
-use Rattle.narc_transport.proofs.TcpRead.{IsHeader, IsSegmentRead, IsSummed, IsTcpRead, has_good_sum, front_octets, header_is}
+use Rattle.narc_transport.proofs.TcpRead.{IsSegmentRead, IsSummed, IsTcpRead, has_good_sum, front_octets, header_is}
 
 pub pseudo_even : (e : Ends) → IsEnds e → (n : ℕ) → length (tcp_pseudo_header e.src e.dst n) % 2 ≡ 0
 pseudo_even e ok n = omega (arith, length-append (e.src ++ e.dst) (0 ∷ 6 ∷ big_endian 2 n), length-append e.src e.dst, ok.0.0, ok.1.0)
@@ -152,14 +149,14 @@ with_rest : TcpWithOffset → (window urgent : ℕ) → TcpWithOffset
 with_rest s window urgent = record { offset = s.offset; tcp = record s.tcp { window = window; urgent = urgent } }
 
 -- the offset, reserved bits and flags are read back from their word
-record IsReadBack (offset reserved flags : ℕ) : Type 0 where
-  offset_is : (4096 * offset + (64 * reserved + flags)) / 4096 % 16 ≡ offset
-  reserved_is : (4096 * offset + (64 * reserved + flags)) / 64 % 64 ≡ reserved
-  flags_is : (4096 * offset + (64 * reserved + flags)) % 64 ≡ flags
-  words : (4096 * offset + (64 * reserved + flags)) / 4096 ≡ offset
-  small : 4096 * offset + (64 * reserved + flags) < 2 ^ 16
+pub record IsReadBack (offset reserved flags : ℕ) : Type 0 where
+  pub offset_is : (4096 * offset + (64 * reserved + flags)) / 4096 % 16 ≡ offset
+  pub reserved_is : (4096 * offset + (64 * reserved + flags)) / 64 % 64 ≡ reserved
+  pub flags_is : (4096 * offset + (64 * reserved + flags)) % 64 ≡ flags
+  pub words : (4096 * offset + (64 * reserved + flags)) / 4096 ≡ offset
+  pub small : 4096 * offset + (64 * reserved + flags) < 2 ^ 16
 
-read_back : (offset reserved flags : ℕ) → offset < 16 → reserved < 64 → flags < 64 → IsReadBack offset reserved flags
+pub read_back : (offset reserved flags : ℕ) → offset < 16 → reserved < 64 → flags < 64 → IsReadBack offset reserved flags
 read_back offset reserved flags o r f = record {
   offset_is = omega (arith, o, r, f);
   reserved_is = omega (arith, r, f);
@@ -167,6 +164,23 @@ read_back offset reserved flags o r f = record {
   words = omega (arith, r, f);
   small = omega (arith, o, r, f);
 }
+
+-- a segment is that of its fields
+pub tcp_again : (s : TcpWithOffset) → IsTcpInRange (tcp_view s.tcp) → s.offset < 16 → tcp_of (raw_tcp s) ≡ s
+unfolding with_word with_ends with_rest
+tcp_again s r range =
+    let t = s.tcp in
+    let bits = 4096 * s.offset + (64 * t.reserved + t.flags) in
+    let b = read_back s.offset t.reserved t.flags range r.reserved r.flags in
+    ap (λ k. with_word (tcp_of (raw_tcp s)) k (bits / 64 % 64) (bits % 64)) b.offset_is
+    ∙ ap (λ k. with_word (tcp_of (raw_tcp s)) s.offset k (bits % 64)) b.reserved_is
+    ∙ ap (λ k. with_word (tcp_of (raw_tcp s)) s.offset t.reserved k) b.flags_is
+    ∙ ap (λ k. with_ends (with_rest s (t.window % 65536) (t.urgent % 65536)) k (t.dport % 65536) (t.seq % 4294967296) (t.ack % 4294967296)) (mod-eq_of_lt r.sport)
+    ∙ ap (λ k. with_ends (with_rest s (t.window % 65536) (t.urgent % 65536)) t.sport k (t.seq % 4294967296) (t.ack % 4294967296)) (mod-eq_of_lt r.dport)
+    ∙ ap (λ k. with_ends (with_rest s (t.window % 65536) (t.urgent % 65536)) t.sport t.dport k (t.ack % 4294967296)) (mod-eq_of_lt r.seq)
+    ∙ ap (λ k. with_ends (with_rest s (t.window % 65536) (t.urgent % 65536)) t.sport t.dport t.seq k) (mod-eq_of_lt r.ack)
+    ∙ ap (λ k. with_rest s k (t.urgent % 65536)) (mod-eq_of_lt r.window)
+    ∙ ap (λ k. with_rest s t.window k) (mod-eq_of_lt r.urgent)
 
 -- the area's length and the word, of the offset
 record IsShape (offset reserved flags area : ℕ) : Type 0 where
@@ -189,7 +203,6 @@ shape_of offset reserved flags area r f header most =
     }
 
 back : (e : Ends) → IsEnds e → (s : TcpWithOffset) (o : List ℕ) → IsSegment e.src e.dst s o → IsTcpRead (e, length o) s o
-unfolding with_word with_ends with_rest
 back e ok s o h =
     let n = length o in
     let t = s.tcp in
@@ -250,15 +263,7 @@ back e ok s o h =
     let good : IsTrue (has_good_sum (e, n) o) = and_from (nat_lt n 65536) (is_good_total (sum_of_octets tcp_pseudo_of (e, n) o)) (lt-ltb n 65536 (omega (arith, i.fits))) (sum_back (e, n) ok o i.checked) in (
       w,
       (segment, good),
-      ap (λ k. with_word (tcp_of w) k (bits / 64 % 64) (bits % 64)) b.offset_is
-          ∙ ap (λ k. with_word (tcp_of w) s.offset k (bits % 64)) b.reserved_is
-          ∙ ap (λ k. with_word (tcp_of w) s.offset t.reserved k) b.flags_is
-          ∙ ap (λ k. with_ends (with_rest s (t.window % 65536) (t.urgent % 65536)) k (t.dport % 65536) (t.seq % 4294967296) (t.ack % 4294967296)) (mod-eq_of_lt r.sport)
-          ∙ ap (λ k. with_ends (with_rest s (t.window % 65536) (t.urgent % 65536)) t.sport k (t.seq % 4294967296) (t.ack % 4294967296)) (mod-eq_of_lt r.dport)
-          ∙ ap (λ k. with_ends (with_rest s (t.window % 65536) (t.urgent % 65536)) t.sport t.dport k (t.ack % 4294967296)) (mod-eq_of_lt r.seq)
-          ∙ ap (λ k. with_ends (with_rest s (t.window % 65536) (t.urgent % 65536)) t.sport t.dport t.seq k) (mod-eq_of_lt r.ack)
-          ∙ ap (λ k. with_rest s k (t.urgent % 65536)) (mod-eq_of_lt r.window)
-          ∙ ap (λ k. with_rest s t.window k) (mod-eq_of_lt r.urgent),
+      tcp_again s r shape.range,
     )
 
 -- octets stand for a segment exactly where they are it, in the context of so many octets

@@ -1,7 +1,7 @@
 -- Octets and rows of a segment, by those of its rules.
-use Rattle.std.proofs.Common.{◌≡◌, ℕ, Bool, ◌+◌, ◌*◌, ◌-◌, ◌^◌, ◌<◌, ◌≤◌, not, ◌||◌, List, [], ◌∷◌, ◌++◌, length, take, drop, IsTrue, refl, sym, ap, ◌∙◌, lit≤}
+use Rattle.std.proofs.Common.{◌≡◌, ℕ, Bool, ◌+◌, ◌^◌, ◌<◌, not, ◌||◌, List, [], ◌∷◌, ◌++◌, length, take, drop, IsTrue, refl, ap, ◌∙◌, lit≤}
 use Rattle.std.specs.Borrow.{Bor}
-use Rattle.narc_bits.specs.Octets.{IsOctets, is_shorter, number_at, big_endian}
+use Rattle.narc_bits.specs.Octets.{is_shorter, number_at, big_endian}
 use Rattle.narc_format.specs.Rows.{Row, row}
 use Rattle.narc_format.specs.declared.field.TheConstants as field
 use Rattle.narc_compose.specs.Both.{both}
@@ -18,7 +18,7 @@ use Rattle.narc_options.proofs.AreaRead.{IsArea, area_rows, area_read}
 use Rattle.narc_transport.specs.declared.as_tcp.TcpWithOffset.{TcpWithOffset}
 use Rattle.narc_transport.specs.declared.context.Ends.{Ends}
 use Rattle.narc_transport.specs.Context.{IsThere}
-use Rattle.narc_transport.specs.Tcp.{is_offset, tcp_area_length, tcp_pseudo_of, RawTcpFront, RawTcpBehind, RawTcp, tcp_of, raw_tcp, SameTcp, tcp_ports, tcp_places, tcp_offset, tcp_words, tcp_front, tcp_options, tcp_urgent, tcp_behind, tcp_segment, tcp_summed, tcp_format}
+use Rattle.narc_transport.specs.Tcp.{is_offset, tcp_area_length, tcp_pseudo_of, RawTcpFront, RawTcpBehind, RawTcp, tcp_of, raw_tcp, SameTcp, tcp_ports, tcp_places, tcp_words, tcp_front, tcp_options, tcp_urgent, tcp_behind, tcp_segment, tcp_summed, tcp_format}
 use Rattle.narc_transport.proofs.NumberRead.{IsNumber, AreNumbers, number_row, number_rows, word_read, numbers_read}
 
 -- ports, and the numbers of sequence and acknowledgment

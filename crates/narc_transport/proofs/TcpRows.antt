@@ -1,7 +1,7 @@
 -- The rows that refuse a segment are those of the table.
-use Rattle.std.proofs.Common.{◌≡◌, ℕ, ◌+◌, ◌*◌, ◌-◌, ◌/◌, ◌%◌, ◌^◌, ◌≤◌, ◌<◌, Bool, true, false, not, ◌&&◌, ◌||◌, List, [], ◌∷◌, ◌++◌, length, take, drop, nat_eq, nat_lt, refl, sym, ap, ◌∙◌, subst, arith, length-take, length-drop}
+use Rattle.std.proofs.Common.{◌≡◌, ℕ, ◌+◌, ◌*◌, ◌-◌, ◌/◌, ◌^◌, ◌≤◌, ◌<◌, Bool, true, false, not, ◌&&◌, ◌||◌, List, [], ◌∷◌, ◌++◌, length, take, drop, nat_lt, refl, ap, ◌∙◌, arith, length-take, length-drop}
 use Rattle.std.specs.Prelude.{slice_range, unwrap_or, is_some}
-use Rattle.std.proofs.lemmas.Bool.{lt-ltb, le-ltb, ltb-true, ltb-false, or_parts, or_from}
+use Rattle.std.proofs.lemmas.Bool.{lt-ltb, le-ltb, ltb-false, or_parts, or_from}
 use Rattle.std.proofs.lemmas.List.{drop-drop}
 use Rattle.narc_bits.specs.Octets.{IsOctets, is_shorter, number_at, number_of}
 use Rattle.narc_bits.specs.InternetSum.{is_good_sum, is_good_total}
@@ -15,7 +15,7 @@ use Rattle.narc_packet.specs.Tcp.{tcp_pseudo_header}
 use Rattle.narc_packet.specs.Refusal.{options_row, tcp_rows}
 use Rattle.narc_transport.specs.declared.context.Ends.{Ends}
 use Rattle.narc_transport.specs.Context.{IsEnds}
-use Rattle.narc_transport.specs.Tcp.{is_offset, tcp_header_length, tcp_area_length, tcp_pseudo_of}
+use Rattle.narc_transport.specs.Tcp.{is_offset, tcp_area_length, tcp_pseudo_of}
 use Rattle.narc_transport.proofs.TcpChosen.{offset_fits, offset_least, offset_most}
 use Rattle.narc_transport.proofs.TcpOctets.{pseudo_even}
 use Rattle.narc_transport.proofs.TcpRead.{has_good_sum, summed_rows}

@@ -1,38 +1,33 @@
 -- A segment meets the conditions of its rules.
-use Rattle.std.proofs.Common.{◌≡◌, ℕ, ◌+◌, ◌-◌, ◌*◌, ◌/◌, ◌%◌, ◌^◌, ◌<◌, ◌≤◌, Bool, true, false, not, ◌&&◌, List, [], ◌∷◌, ◌++◌, length, IsTrue, nat_lt, refl, sym, ap, ◌∙◌, subst, arith, lit<, lit≤, length-append}
-use Rattle.std.specs.Borrow.{Bor}
+use Rattle.std.proofs.Common.{◌≡◌, ℕ, ◌+◌, ◌*◌, ◌/◌, ◌%◌, ◌^◌, ◌<◌, Bool, List, length, IsTrue, refl, sym, ap, ◌∙◌, subst, arith, lit≤, length-append}
 use Rattle.std.proofs.Math.Nat.{mod-eq_of_lt}
-use Rattle.std.proofs.lemmas.Bool.{ltb-true, ltb-false}
-use Rattle.narc_bits.specs.Bits.{bits, bits_of_number, octets_of_bits}
+use Rattle.narc_bits.specs.Bits.{octets_of_bits}
 use Rattle.narc_bits.specs.InternetSum.{total}
 use Rattle.narc_bits.proofs.Numbers.{length-bits, length-bits_of_number}
-use Rattle.narc_format.specs.declared.field.TheConstants as field
 use Rattle.narc_format.specs.Holes.{IsHoled}
 use Rattle.narc_format.specs.Widths.{IsWide}
 use Rattle.narc_format.proofs.Widths.{wide-sized}
 use Rattle.narc_scalar.specs.Tested.{tested}
 use Rattle.narc_scalar.specs.Word.{word}
-use Rattle.narc_compose.specs.Conditions.{and_left, and_right}
 use Rattle.narc_compose.specs.Gap.{gapped}
 use Rattle.narc_compose.specs.GapLaws.{gapped_is_holed}
 use Rattle.narc_compose.specs.Named.{named}
 use Rattle.narc_compose.specs.Seq.{seq, seq_tail}
 use Rattle.narc_compose.specs.SeqHoles.{seq_tail_is_holed}
-use Rattle.narc_compose.specs.Strip.{stripped, Chosen}
+use Rattle.narc_compose.specs.Strip.{stripped}
 use Rattle.narc_list.specs.Bytes.{all_octets}
 use Rattle.narc_list.specs.Region.{region}
 use Rattle.narc_list.specs.Until.{until}
 use Rattle.narc_sum.specs.Checked.{checked_tail}
 use Rattle.narc_packet.specs.Options.{tcp_options_in}
-use Rattle.narc_packet.specs.PacketView.{TcpView, tcp_view}
+use Rattle.narc_packet.specs.PacketView.{TcpView}
 use Rattle.narc_compose.specs.Both.{both}
-use Rattle.narc_options.specs.Option.{option_region}
 use Rattle.narc_options.proofs.AreaSound.{region_sound}
 use Rattle.narc_layout.proofs.Sizes.{pair_eq}
 use Rattle.narc_transport.specs.declared.as_tcp.TcpWithOffset.{TcpWithOffset}
 use Rattle.narc_transport.specs.declared.context.Ends.{Ends}
 use Rattle.narc_transport.specs.Context.{IsThere}
-use Rattle.narc_transport.specs.Tcp.{tcp_header_length, tcp_area_length, is_offset, tcp_pseudo_of, RawTcpFront, RawTcpBehind, RawTcp, tcp_of, raw_tcp, SameTcp, tcp_ports, tcp_places, tcp_offset, tcp_words, tcp_front, tcp_options, tcp_urgent, tcp_behind, tcp_segment, tcp_summed, tcp_format}
+use Rattle.narc_transport.specs.Tcp.{tcp_area_length, is_offset, tcp_pseudo_of, RawTcpFront, RawTcp, tcp_of, raw_tcp, SameTcp, tcp_ports, tcp_places, tcp_words, tcp_front, tcp_options, tcp_urgent, tcp_behind, tcp_segment, tcp_summed, tcp_format}
 use Rattle.narc_transport.specs.Laws.{tcp_front_laws, tcp_segment_laws, tcp_summed_laws}
 use Rattle.narc_transport.proofs.PseudoSums.{pseudo_sum}
 

@@ -1,5 +1,5 @@
 -- The octets that stand for a datagram are those of it.
-use Rattle.std.proofs.Common.{◌≡◌, ℕ, ◌+◌, ◌*◌, ◌-◌, ◌%◌, ◌^◌, ◌<◌, ◌≤◌, ◌↔◌, ◌⊎◌, Bool, true, List, [], ◌∷◌, ◌++◌, length, take, nat_eq, IsTrue, refl, sym, ap, ◌∙◌, subst, arith, inl, inr, length-append}
+use Rattle.std.proofs.Common.{◌≡◌, ℕ, ◌+◌, ◌*◌, ◌%◌, ◌^◌, ◌<◌, ◌≤◌, ◌↔◌, ◌⊎◌, true, List, ◌∷◌, ◌++◌, length, take, nat_eq, IsTrue, refl, sym, ap, ◌∙◌, subst, arith, inl, inr, length-append}
 use Rattle.std.proofs.Math.Nat.{mod-eq_of_lt}
 use Rattle.std.proofs.lemmas.Bool.{eqb-true}
 use Rattle.std.proofs.lemmas.List.{take_at}
@@ -9,18 +9,17 @@ use Rattle.narc_bits.specs.InternetSum.{IsGoodSum, is_good_total}
 use Rattle.narc_bits.proofs.Octets.{IsOctets-front, IsOctets-back}
 use Rattle.narc_bits.proofs.Spelled.{length-big_endian}
 use Rattle.narc_layout.proofs.NetworkOrder.{number_of_lt, number_of-big_endian, big_endian-number_of}
-use Rattle.narc_layout.proofs.ReadLayout.{Parts}
 use Rattle.narc_layout.proofs.SumReads.{has_no_sum, sum_of_octets, word_in_hole, good_behind, or_true, or_cases}
 use Rattle.narc_packet.specs.declared.packet.Udp.{Udp}
 use Rattle.narc_packet.specs.PacketView.{UdpView, udp_view}
-use Rattle.narc_packet.specs.Ranges.{IsIp}
-use Rattle.narc_packet.specs.Udp.{IsUdp, udp_length, udp_octets, udp_pseudo_header}
+use Rattle.narc_packet.specs.Ranges.{IsUdpInRange}
+use Rattle.narc_packet.specs.Udp.{IsUdp, udp_octets, udp_pseudo_header}
 use Rattle.narc_transport.specs.declared.context.Ends.{Ends}
 use Rattle.narc_transport.specs.Context.{IsEnds}
-use Rattle.narc_transport.specs.Udp.{is_udp_length, udp_pseudo_of, RawUdpFront, RawDatagram, RawUdp, udp_of, raw_udp}
-use Rattle.narc_transport.proofs.UdpSound.{length_least, length_most}
+use Rattle.narc_transport.specs.Udp.{udp_pseudo_of, RawUdpFront, RawDatagram, RawUdp, udp_of, raw_udp}
+use Rattle.narc_transport.proofs.UdpSound.{length_least}
 use Rattle.narc_transport.proofs.UdpChosen.{length_fits}
-use Rattle.narc_transport.proofs.UdpRead.{IsHeader, IsDatagram, IsSummed, IsUdpAndSurplus, IsUdpRead, has_good_sum, front_octets, header_is}
+use Rattle.narc_transport.proofs.UdpRead.{IsDatagram, IsSummed, IsUdpAndSurplus, IsUdpRead, has_good_sum, front_octets, header_is}
 
 pub pseudo_even : (e : Ends) → IsEnds e → (n : ℕ) → length (udp_pseudo_header e.src e.dst n) % 2 ≡ 0
 pseudo_even e ok n = omega (arith, length-append (e.src ++ e.dst) (0 ∷ 17 ∷ big_endian 2 n), length-append e.src e.dst, ok.0.0, ok.1.0)
@@ -109,8 +108,12 @@ forth c ok w o each p =
 with_ports : Udp → (sport dport : ℕ) → Udp
 with_ports u sport dport = record u { sport = sport; dport = dport }
 
-back : (e : Ends) → IsEnds e → (u : Udp) (o : List ℕ) → IsUdp e.src e.dst (udp_view u) o → IsUdpRead (e, length o) u o
+-- a datagram is that of its fields
+pub udp_again : (u : Udp) → IsUdpInRange (udp_view u) → udp_of (raw_udp u) ≡ u
 unfolding with_ports
+udp_again u r = ap (λ s. with_ports u s (u.dport % 65536)) (mod-eq_of_lt r.sport) ∙ ap (λ d. with_ports u u.sport d) (mod-eq_of_lt r.dport)
+
+back : (e : Ends) → IsEnds e → (u : Udp) (o : List ℕ) → IsUdp e.src e.dst (udp_view u) o → IsUdpRead (e, length o) u o
 back e ok u o h =
     let n = length o in
     let w = raw_udp u in
@@ -149,7 +152,7 @@ back e ok u o h =
     ]) in (
       w,
       record { front = g; back = h.surplus; joined = h.layout; first = (datagram, good); second = tt },
-      ap (λ s. with_ports u s (u.dport % 65536)) (mod-eq_of_lt h.in_range.sport) ∙ ap (λ d. with_ports u u.sport d) (mod-eq_of_lt h.in_range.dport),
+      udp_again u h.in_range,
     )
 
 -- octets stand for a datagram exactly where they are it and any surplus, in the context of so many octets

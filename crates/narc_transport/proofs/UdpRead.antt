@@ -1,12 +1,10 @@
 -- Octets and rows of a datagram, by those of its rules.
-use Rattle.std.proofs.Common.{◌≡◌, ℕ, Bool, ◌+◌, ◌*◌, ◌-◌, ◌^◌, ◌<◌, ◌≤◌, not, ◌||◌, List, [], ◌∷◌, ◌++◌, length, take, drop, IsTrue, refl, sym, ap, ◌∙◌, append_assoc, lit≤}
+use Rattle.std.proofs.Common.{◌≡◌, ℕ, Bool, ◌+◌, ◌-◌, ◌^◌, ◌<◌, not, ◌||◌, List, [], ◌∷◌, ◌++◌, length, take, drop, IsTrue, refl, ap, ◌∙◌, append_assoc, lit≤}
 use Rattle.std.specs.Borrow.{Bor}
-use Rattle.narc_bits.specs.Octets.{IsOctets, is_shorter, number_at, big_endian}
+use Rattle.narc_bits.specs.Octets.{is_shorter, number_at, big_endian}
 use Rattle.narc_format.specs.Rows.{Row, row}
 use Rattle.narc_format.specs.declared.field.TheConstants as field
-use Rattle.narc_scalar.specs.Word.{word}
 use Rattle.narc_compose.specs.Gap.{gapped}
-use Rattle.narc_compose.specs.Named.{named}
 use Rattle.narc_layout.proofs.NetworkOrder.{number_of-big_endian}
 use Rattle.narc_layout.proofs.FieldLayout.{named_layout}
 use Rattle.narc_layout.proofs.TestLayout.{shape_word, unnamed_word, shape_tested, unnamed_tested}

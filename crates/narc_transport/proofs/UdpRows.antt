@@ -1,12 +1,12 @@
 -- The rows that refuse a datagram are those of the table.
-use Rattle.std.proofs.Common.{◌≡◌, ℕ, ◌+◌, ◌*◌, ◌-◌, ◌≤◌, ◌<◌, Bool, true, false, not, ◌&&◌, ◌||◌, List, [], ◌∷◌, ◌++◌, length, take, drop, nat_eq, nat_lt, refl, sym, ap, ◌∙◌, subst, arith, length-take, length-drop}
+use Rattle.std.proofs.Common.{◌≡◌, ℕ, ◌+◌, ◌-◌, ◌≤◌, false, not, ◌&&◌, ◌||◌, List, [], ◌∷◌, ◌++◌, length, take, drop, nat_eq, nat_lt, refl, sym, ap, ◌∙◌, arith, length-take, length-drop}
 use Rattle.std.proofs.lemmas.Bool.{lt-ltb, le-ltb, ltb-true, ltb-false, or_parts}
 use Rattle.std.proofs.lemmas.List.{drop-take, take-take}
 use Rattle.narc_bits.specs.Octets.{IsOctets, is_shorter, number_at, number_of}
 use Rattle.narc_bits.specs.Bits.{bits}
 use Rattle.narc_bits.specs.InternetSum.{is_good_sum, is_good_total}
 use Rattle.narc_bits.proofs.Octets.{IsOctets-take}
-use Rattle.narc_format.specs.Rows.{Row, row, first_failing, differs}
+use Rattle.narc_format.specs.Rows.{row, first_failing, differs}
 use Rattle.narc_format.specs.declared.field.TheConstants as field
 use Rattle.narc_layout.proofs.SameRows.{same_test, shorter-drop, not_true, or_assoc, not_and, not_or, not_not, row_same, row_passes}
 use Rattle.narc_layout.proofs.SumReads.{has_no_sum, sum_of_octets, word_in_hole, good_behind}

@@ -1,13 +1,11 @@
 -- A datagram meets the conditions of its rules.
-use Rattle.std.proofs.Common.{◌≡◌, ℕ, ◌+◌, ◌-◌, ◌*◌, ◌/◌, ◌%◌, ◌^◌, ◌<◌, ◌≤◌, Bool, true, false, not, ◌&&◌, List, [], ◌∷◌, ◌++◌, length, replicate, IsTrue, nat_lt, refl, sym, ap, ◌∙◌, subst, arith, lit<, lit≤, length-append}
-use Rattle.std.specs.Borrow.{Bor}
+use Rattle.std.proofs.Common.{◌≡◌, ℕ, ◌+◌, ◌-◌, ◌*◌, ◌/◌, ◌%◌, ◌^◌, ◌<◌, ◌≤◌, Bool, true, false, not, List, length, replicate, IsTrue, nat_lt, refl, sym, ap, ◌∙◌, subst, arith, lit≤, length-append}
 use Rattle.std.proofs.Math.Nat.{mod-eq_of_lt}
 use Rattle.std.proofs.Math.ListN.{length-replicate}
 use Rattle.std.proofs.lemmas.Bool.{ltb-true, ltb-false}
-use Rattle.narc_bits.specs.Bits.{bits, bits_of_number, octets_of_bits}
+use Rattle.narc_bits.specs.Bits.{bits, octets_of_bits}
 use Rattle.narc_bits.specs.InternetSum.{total}
 use Rattle.narc_bits.proofs.Numbers.{length-bits, length-bits_of_number}
-use Rattle.narc_format.specs.declared.field.TheConstants as field
 use Rattle.narc_format.specs.Holes.{IsHoled}
 use Rattle.narc_format.specs.Widths.{IsWide}
 use Rattle.narc_format.proofs.Widths.{wide-sized}
@@ -20,18 +18,18 @@ use Rattle.narc_compose.specs.Measured.{measured}
 use Rattle.narc_compose.specs.Named.{named}
 use Rattle.narc_compose.specs.Seq.{seq, seq_tail}
 use Rattle.narc_compose.specs.SeqHoles.{seq_is_holed}
-use Rattle.narc_compose.specs.Strip.{stripped, Chosen}
+use Rattle.narc_compose.specs.Strip.{stripped}
 use Rattle.narc_list.specs.Bytes.{all_octets}
 use Rattle.narc_list.specs.Pad.{padding}
 use Rattle.narc_list.specs.Region.{region}
 use Rattle.narc_sum.specs.Checked.{checked_or_none}
 use Rattle.narc_packet.specs.declared.packet.Udp.{Udp}
-use Rattle.narc_packet.specs.PacketView.{UdpView, udp_view}
+use Rattle.narc_packet.specs.PacketView.{UdpView}
 use Rattle.narc_layout.proofs.Sizes.{pair_eq}
 use Rattle.narc_transport.specs.declared.context.Ends.{Ends}
 use Rattle.narc_transport.specs.Context.{IsThere}
-use Rattle.narc_transport.specs.Udp.{is_udp_length, udp_pseudo_of, RawUdpFront, RawDatagram, RawUdp, udp_of, raw_udp, SameUdp, udp_ports, udp_length, udp_front, udp_payload, udp_datagram, udp_summed, udp_and_surplus, udp_format}
-use Rattle.narc_transport.specs.Laws.{udp_front_laws, udp_datagram_laws, udp_summed_laws, udp_and_surplus_laws}
+use Rattle.narc_transport.specs.Udp.{is_udp_length, udp_pseudo_of, RawUdpFront, RawDatagram, RawUdp, udp_of, raw_udp, SameUdp, udp_front, udp_payload, udp_datagram, udp_summed, udp_and_surplus, udp_format}
+use Rattle.narc_transport.specs.Laws.{udp_front_laws, udp_summed_laws, udp_and_surplus_laws}
 use Rattle.narc_transport.proofs.PseudoSums.{pseudo_sum}
 
 front_sound : udp_front.sound

@@ -10,6 +10,8 @@ mod parts;
 mod pseudo;
 mod tcp;
 mod tcp_front;
+#[cfg(test)]
+mod tests;
 mod udp;
 mod udp_front;
 

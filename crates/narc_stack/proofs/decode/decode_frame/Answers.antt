@@ -10,7 +10,7 @@ read-requires-clause-sound g c = frame_sound
 pub returns-in-Ok-clause-only : goal.returns-in-Ok-clause-only
 returns-in-Ok-clause-only g c =
     let b = c.args.bytes.now in
-    only_packet b (IsOctets-from_index b (λ i. omega (arith, c.type_inv.bytes i))) c.requires.built c.in-Ok.packet
+    only_packet b (IsOctets-from_index b (λ i. omega (arith, c.type_inv.bytes i))) c.in-Ok.packet
     (stood_whole b _ _ _ _ c.new-cursor.ensures c.in-Ok.packet c.in-Ok.ensures)
 
 pub returns-in-Ok-clause-answer : goal.returns-in-Ok-clause-answer
@@ -22,7 +22,7 @@ returns-in-Ok-clause-cost g c = cost_took c.args.bytes.now _ _ _ _ c.new-cursor.
 pub returns-in-Err-clause-only : goal.returns-in-Err-clause-only
 returns-in-Err-clause-only g c =
     let b = c.args.bytes.now in
-    only_refusal b (IsOctets-from_index b (λ i. omega (arith, c.type_inv.bytes i))) c.requires.built c.in-Err.fault
+    only_refusal b (IsOctets-from_index b (λ i. omega (arith, c.type_inv.bytes i))) c.in-Err.fault
     (refused_whole b _ _ _ _ c.new-cursor.ensures c.in-Err.fault c.in-Err.ensures)
 
 pub returns-in-Err-clause-answer : goal.returns-in-Err-clause-answer

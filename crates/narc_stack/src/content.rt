@@ -1,0 +1,83 @@
+//! The data of an IPv4 packet.
+ghost use Rattle.std.specs.Prelude.{◌≡◌, ℕ};
+ghost use Rattle.narc_stack.specs.Content.{by_udp, by_tcp, IsContent};
+
+use narc_compose::{Either, Parted, Pick, Union};
+use narc_list::{Bytes, Count};
+use narc_packet::Udp;
+use narc_transport::{Ends, TcpPart, TcpWithOffset, UdpPart};
+
+/// What the data of an IPv4 packet is read with.
+#[derive(Clone, Copy, Drop)]
+pub struct Content {
+    pub ends: Ends,
+    pub protocol: u8,
+    /// More fragments follow, or this is not the first.
+    pub fragment: bool,
+    /// How many octets the data has.
+    pub octets: usize,
+}
+
+/// A datagram, a segment, or data that is kept unread.
+pub type IpContent = Union<ByUdp, Parted<UdpPart>, Union<ByTcp, Parted<TcpPart>, Bytes>>;
+
+pub(crate) type RawContent<'a> = Either<Udp<'a>, Either<TcpWithOffset<'a>, &'a [u8]>>;
+
+/// A UDP datagram, where the packet has the protocol 17 and is no fragment.
+pub struct ByUdp;
+
+impl Pick<(Ends, usize), Content> for ByUdp {
+    type Ctx = Content;
+
+    ghost pick_of = { by_udp };
+
+    ghost valid = { IsContent };
+
+    fn pick(ctx: Content) -> Either<(Ends, usize), Content> {
+        if ctx.protocol == 17 && !ctx.fragment {
+            Either::Left((ctx.ends, ctx.octets))
+        } else {
+            Either::Right(ctx)
+        }
+    }
+}
+
+/// A TCP segment, where the packet has the protocol 6 and is no fragment.
+pub struct ByTcp;
+
+impl Pick<(Ends, usize), ()> for ByTcp {
+    type Ctx = Content;
+
+    ghost pick_of = { by_tcp };
+
+    ghost valid = { IsContent };
+
+    fn pick(ctx: Content) -> Either<(Ends, usize), ()> {
+        if ctx.protocol == 6 && !ctx.fragment {
+            Either::Left((ctx.ends, ctx.octets))
+        } else {
+            Either::Right(())
+        }
+    }
+}
+
+/// As many octets as the header says.
+pub struct ContentOctets;
+
+impl Count for ContentOctets {
+    type Ctx = Content;
+
+    ghost octets_of = { λ c. c.octets };
+
+    ghost count_of = { λ c. c.octets };
+
+    ghost valid = { IsContent };
+
+    fn octets(ctx: Content) -> usize {
+        ctx.octets
+    }
+
+    fn count(ctx: Content) -> usize {
+        ctx.octets
+    }
+}
