@@ -1,4 +1,5 @@
 pub mod OptionSound
+pub mod OptionOctets
 pub mod HeaderSound
 pub mod HeaderChosen
 pub mod FirstOctet

@@ -1,5 +1,7 @@
 -- An option of an IPv4 header (RFC 791, section 3.1).
-use Rattle.std.specs.Prelude.{◌≡◌, ℕ, ◌+◌, ◌%◌, List, length}
+use Rattle.std.specs.Prelude.{◌≡◌, ◌↔◌, ℕ, ◌+◌, ◌%◌, Bool, List, length}
+use Rattle.narc_bits.specs.Bits.{bits}
+use Rattle.narc_packet.specs.Options.{ip_option, IsIpOption}
 use Rattle.std.specs.Borrow.{Bor}
 use Rattle.narc_format.specs.Meaning.{Meaning}
 use Rattle.narc_compose.specs.declared.either.Either.{Either}
@@ -28,3 +30,7 @@ raw_ip_option (ip.Other kind octets) = (kind, Right ((2 + length octets.now, oct
 -- what `IpOptionFormat` means
 abbrev pub ip_option_format : Meaning (Unit {0}) IpOption
 ip_option_format = stripped ip_option_of (λ c o. raw_ip_option o) SameIpOption option_fields
+
+-- exactly the spelling of an option stands for it
+abbrev pub IsItsOption : Meaning (Unit {0}) IpOption → Type 0
+IsItsOption m = (o : IpOption) (b : List Bool) → m.stands tt o b ↔ (IsIpOption (ip_option_view o) × (b ≡ bits (ip_option (ip_option_view o))))

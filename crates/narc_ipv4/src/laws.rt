@@ -1,4 +1,5 @@
 //! What is proved of the formats.
+ghost use Rattle.narc_ipv4.specs.Option.{IsItsOption};
 ghost use Rattle.narc_ipv4.specs.Header.{StandsElsewhere};
 ghost use Rattle.narc_ipv4.specs.HeaderOctets.{IsItsOctets, IsRefusedByRow};
 
@@ -10,6 +11,11 @@ use narc_format::Format;
 /// The conditions of the rules of an option hold.
 pub fn ip_option_format_is_sound()
     ensures { ⟦<IpOptionFormat as Format<Cursor<'static>>>⟧.meaning.sound }
+{}
+
+/// The bits that stand for an option are those of its octets, and no others.
+pub fn ip_option_format_is_its_octets()
+    ensures { IsItsOption ⟦<IpOptionFormat as Format<Cursor<'static>>>⟧.meaning }
 {}
 
 /// The conditions of the rules of a header hold.

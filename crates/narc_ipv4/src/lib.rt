@@ -15,6 +15,6 @@ pub use header::{
 };
 pub use laws::{
     ip_head_is_its_octets, ip_head_is_refused_by_row, ip_head_is_sound, ip_head_moves,
-    ip_option_format_is_sound,
+    ip_option_format_is_its_octets, ip_option_format_is_sound,
 };
 pub use option::{AsIpOption, IpOptionFormat};

@@ -20,3 +20,4 @@ pub mod UnionRead
 pub mod SumReads
 pub mod SameRows
 pub mod PlainRead
+pub mod SumSpelled

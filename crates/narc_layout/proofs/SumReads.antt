@@ -69,7 +69,7 @@ module _ {C : Type 0} (pseudo_of : C → ℕ → List ℕ) where
   abbrev pub sum_of_octets : C → List ℕ → ℕ
   sum_of_octets c o = total (pseudo_of c (length o)) + total o
 
-  sum_again : (c : C) (o : List ℕ) → IsOctets o → sum_of_bits c (bits o) ≡ sum_of_octets c o
+  pub sum_again : (c : C) (o : List ℕ) → IsOctets o → sum_of_bits c (bits o) ≡ sum_of_octets c o
   sum_again c o each =
       let n : length (bits o) / 8 ≡ length o = omega (arith, length-bits o) in
       ap (λ l. total (pseudo_of c (length (bits o) / 8)) + total l) (octets_again o each) ∙ ap (λ k. total (pseudo_of c k) + total o) n

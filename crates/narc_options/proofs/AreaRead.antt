@@ -16,18 +16,20 @@ use Rattle.narc_format.specs.Rows.{Row, RefusalView, row, first_failing}
 use Rattle.narc_layout.specs.FirstFault.{IsFirstFault}
 use Rattle.narc_layout.proofs.Rows.{told}
 use Rattle.narc_layout.proofs.Layouts.{front_octets}
+use Rattle.narc_layout.proofs.SameRows.{row_passes, refused_by, stands_as}
 use Rattle.narc_layout.proofs.ReadLayout.{Spelled, IsTailRead}
 use Rattle.narc_list.specs.Items.{InRow}
 use Rattle.narc_list.specs.Until.{IsEnd, AreItems, until}
 use Rattle.narc_list.specs.UntilLaws.{zero_spelled}
 use Rattle.narc_packet.specs.Options.{IpOptionView, ip_option, IsListEnd, is_bad_option, bad_option_from, bad_option, ip_options_in, AreIpOptions}
 use Rattle.narc_packet.specs.Refusal.{options_row}
+use Rattle.narc_options.specs.OptionOctets.{raw_view, IsAreaOf, IsItsArea, IsRefusedByRow}
 use Rattle.narc_options.specs.Option.{RawOption, option_fields, option_area}
 use Rattle.narc_options.specs.Laws.{option_fields_laws, option_area_laws}
 use Rattle.narc_options.proofs.OptionSound.{option_sound}
 use Rattle.narc_options.proofs.AreaSound.{area_sound}
 use Rattle.narc_options.proofs.Spellings.{spelled, AreOptions, are_options, bad_of, none_bad, bad_here, option_there, spelled_each}
-use Rattle.narc_options.proofs.OptionOctets.{raw_view, fields_of, raw_option, fields_are_raw, view_of_fields, option_octets}
+use Rattle.narc_options.proofs.OptionOctets.{fields_of, raw_option, fields_are_raw, view_of_fields, option_octets}
 
 -- the options that octets are
 pub record OptionsOf (b : List Bool) : Type 0 where
@@ -105,14 +107,6 @@ octets_end : (r : List ℕ) → IsListEnd r → IsEnd (bits r)
 unfolding bits
 octets_end [] h = inl refl
 octets_end (octet ∷ r) h = inr (record { later = bits r; is = ap (λ n. bits_of_number 8 n ++ bits r) h })
-
--- the octets of options, and an end
-pub record IsAreaOf (l area : List ℕ) : Type 0 where
-  pub short : length area ≤ 40
-  pub are : AreIpOptions l
-  pub rest : List ℕ
-  pub joined : area ≡ l ++ rest
-  pub ended : IsListEnd rest
 
 abbrev pub IsArea : ℕ → Bor (List ℕ) → List ℕ → Type 0
 IsArea c v area = IsAreaOf v.now area
@@ -272,3 +266,14 @@ area_read = record {
   passes = λ c start x each. (passes_row start x each, λ p. none_fails start p.0.now x p.1);
   places = λ c start x. at_least start (nat_lt 40 (length x)) (bad_option x);
 }
+
+-- octets stand where they are an area's
+pub its_area : IsItsArea option_area
+its_area c v area each = stands_as area_read c v area each
+
+-- up to 40 octets are not too many
+few_same : (start : ℕ) (area : List ℕ) → length area ≤ 40 → first_failing (area_rows 0 start area) ≡ first_failing (options_row 0 start area ∷ [])
+few_same start area short = row_passes 0 start (nat_lt 40 (length area)) (options_row 0 start area ∷ []) (le-ltb 40 (length area) short)
+
+pub refused_by_row : IsRefusedByRow option_area
+refused_by_row c start area each short = refused_by area_read c start area each (options_row 0 start area ∷ []) (few_same start area short)

@@ -3,7 +3,7 @@ use Rattle.std.proofs.Common.{◌≡◌, ℕ, ◌%◌, List, ◌++◌, length, s
 use Rattle.std.specs.Prelude.{flat_map}
 use Rattle.narc_bits.specs.Octets.{IsOctets}
 use Rattle.narc_packet.specs.Options.{IpOptionView, ip_option, ip_options_in, AreIpOptions, IsIpArea}
-use Rattle.narc_options.proofs.AreaRead.{IsAreaOf}
+use Rattle.narc_options.specs.OptionOctets.{IsAreaOf}
 use Rattle.narc_options.proofs.Spellings.{are_options, options_again}
 
 -- the options of a slice that an area begins with

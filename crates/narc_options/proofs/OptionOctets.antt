@@ -1,5 +1,5 @@
 -- The octets of an option's fields.
-use Rattle.std.proofs.Common.{◌≡◌, ℕ, ◌+◌, ◌*◌, ◌^◌, ◌<◌, ◌≤◌, ◌↔◌, Bool, true, false, not, List, [], ◌++◌, length, IsTrue, nat_eq, nat_lt, refl, sym, ap, ◌∙◌, subst, arith, if◌then◌else◌}
+use Rattle.std.proofs.Common.{◌≡◌, ℕ, ◌+◌, ◌*◌, ◌^◌, ◌<◌, ◌≤◌, Bool, true, false, not, List, [], ◌++◌, length, IsTrue, nat_eq, nat_lt, refl, sym, ap, ◌∙◌, subst, arith, if◌then◌else◌}
 use Rattle.std.specs.Borrow.{Bor}
 use Rattle.std.proofs.lemmas.Bool.{lt-ltb, eqb-true, eqb-false, ne_eqb, and_from}
 use Rattle.std.proofs.lemmas.List.{nil_from_length}
@@ -15,18 +15,10 @@ use Rattle.narc_compose.specs.Union.{united, Sides}
 use Rattle.narc_list.specs.Bytes.{all_octets}
 use Rattle.narc_list.specs.Pad.{padding}
 use Rattle.narc_list.specs.Region.{region}
-use Rattle.narc_packet.specs.Options.{IpOptionView, IpNop, IpOther, ip_option, IsOtherOption, IsIpOption}
+use Rattle.narc_packet.specs.Options.{IpOptionView, IpNop, IpOther, ip_option, IsIpOption}
+use Rattle.narc_options.specs.OptionOctets.{IsRawOption, raw_view, IsItsOption}
 use Rattle.narc_options.specs.Option.{is_kind, is_option_length, RawOption, nothing, length_and_data, option_fields}
 use Rattle.narc_options.proofs.OptionSound.{kind_some, length_least, length_most}
-
--- the fields agree
-abbrev pub IsRawOption : RawOption → Type 0
-IsRawOption (kind, Left u) = kind ≡ 1
-IsRawOption (kind, Right rest) = IsOtherOption kind rest.1.now × (rest.0 ≡ 2 + length rest.1.now)
-
-abbrev pub raw_view : RawOption → IpOptionView
-raw_view (kind, Left u) = IpNop
-raw_view (kind, Right rest) = IpOther kind rest.1.now
 
 -- the fields of an option
 abbrev pub fields_of : IpOptionView → RawOption
@@ -109,7 +101,7 @@ cut_option kind (Right r) h = record {
 }
 
 -- exactly the spellings of options stand
-pub option_octets : (v : RawOption) (b : List Bool) → option_fields.stands tt v b ↔ (IsRawOption v × (b ≡ bits (ip_option (raw_view v))))
+pub option_octets : IsItsOption option_fields
 unfolding seq tested word united
 option_octets v b = (
   λ p.

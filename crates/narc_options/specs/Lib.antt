@@ -1,2 +1,3 @@
 pub mod Option
 pub mod Laws
+pub mod OptionOctets

@@ -1,4 +1,6 @@
 //! What is proved of options and their areas.
+ghost use Rattle.narc_options.specs.OptionOctets.{IsItsOption, IsItsArea, IsRefusedByRow};
+
 use crate::area::{OptionArea, OptionRegion};
 use crate::option::OptionFields;
 use narc_bits::Cursor;
@@ -17,4 +19,19 @@ pub fn option_area_is_sound()
 /// The conditions of the rules of an area of so many octets hold.
 pub fn option_region_is_sound()
     ensures { ⟦<OptionRegion<'static> as Format<Cursor<'static>>>⟧.meaning.sound }
+{}
+
+/// The bits that stand for the fields of an option are those of the option's octets, and no others.
+pub fn option_fields_are_their_octets()
+    ensures { IsItsOption ⟦<OptionFields as Format<Cursor<'static>>>⟧.meaning }
+{}
+
+/// Octets stand for the spellings of options exactly where they are these, and then an end; at most 40.
+pub fn option_area_is_its_octets()
+    ensures { IsItsArea ⟦<OptionArea<'static> as Tail<Cursor<'static>>>⟧.meaning }
+{}
+
+/// Up to 40 octets are refused exactly where an option in them is bad, unnamed, at the first bit of the first that is.
+pub fn option_area_is_refused_by_row()
+    ensures { IsRefusedByRow ⟦<OptionArea<'static> as Tail<Cursor<'static>>>⟧.meaning }
 {}

@@ -6,7 +6,10 @@ mod laws;
 mod option;
 
 pub use area::{OptionArea, OptionRegion};
-pub use laws::{option_area_is_sound, option_fields_are_sound, option_region_is_sound};
+pub use laws::{
+    option_area_is_its_octets, option_area_is_refused_by_row, option_area_is_sound,
+    option_fields_are_sound, option_fields_are_their_octets, option_region_is_sound,
+};
 pub use option::{
     AnyOctets, ByKind, ContextOctets, Data, DataOf, IsKind, IsOptionLength, Kind, KindOf, Length,
     Nothing, OptionFields, RawOption,

@@ -7,7 +7,7 @@ ghost use Rattle.narc_world.specs.Outside.{Rose};
 ghost use Rattle.narc_text.specs.Printing.{IsPrinted};
 
 use crate::page::Page;
-use crate::words::{print_hex, print_word, put_decimal};
+use crate::words::{print_hex, print_word};
 use narc_packet::{IpOption, IpOptions, TcpOption, TcpOptions};
 use narc_world::{Failed, Sink};
 
@@ -22,7 +22,7 @@ fn print_size<K: Sink>(size: u16, page: &mut Page, sink: &mut K) -> Result<(), F
 {
     page.make_room(FRONT, sink)?;
     page.put(b"mss:");
-    put_decimal(page, u64::from(size));
+    page.put_short(size);
     Ok(())
 }
 
@@ -39,7 +39,7 @@ fn print_other<K: Sink>(
 {
     page.make_room(FRONT, sink)?;
     page.put(b"opt:");
-    put_decimal(page, u64::from(kind));
+    page.put_octet(kind);
     page.put(b":");
     print_hex(page, octets, sink)
 }

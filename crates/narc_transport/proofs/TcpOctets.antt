@@ -9,7 +9,7 @@ use Rattle.narc_bits.proofs.Spelled.{length-big_endian}
 use Rattle.narc_layout.proofs.NetworkOrder.{number_of_lt, big_endian-number_of}
 use Rattle.narc_layout.proofs.Sizes.{pair_eq}
 use Rattle.narc_layout.proofs.SumReads.{sum_of_octets, good_behind}
-use Rattle.narc_options.proofs.AreaRead.{IsAreaOf}
+use Rattle.narc_options.specs.OptionOctets.{IsAreaOf}
 use Rattle.narc_packet.proofs.OptionLists.{AreIpOptions-few}
 use Rattle.narc_packet.proofs.SpelledOptions.{AreTcpOptions-ip, FitArea-tcp_options}
 use Rattle.narc_packet.specs.Options.{tcp_options_in, AreTcpOptions, IsTcpArea}

@@ -11,9 +11,7 @@ returns-clause-printed g c =
     let roomy = c.make_room.new.self in
     let kind = c.args.kind in
     let put : c.put-2.new.self ≡ roomy ++ ((codes "opt:" ++ decimal kind) ++ codes ":") =
-    c.put-2.ensures
-    ∙ ap (λ l. l ++ codes ":") (c.put_decimal.ensures.value ∙ ap (λ l. l ++ decimal c.from.result) c.put.ensures ∙ ap (λ n. (roomy ++ codes "opt:") ++ decimal n) c.from.ensures)
-    ∙ front roomy kind in
+    c.put-2.ensures ∙ ap (λ l. l ++ codes ":") (c.put_octet.ensures.value ∙ ap (λ l. l ++ decimal kind) c.put.ensures) ∙ front roomy kind in
     IsPrinted-room ((codes "opt:" ++ decimal kind) ++ codes ":") (hex_word c.args.octets.now) c.args.page.now roomy c.put-2.new.self c.print_hex.new.page
     (g.K.Sink.held c.args.sink.now) (g.K.Sink.held c.make_room.new.sink) (g.K.Sink.held c.print_hex.new.sink) c.print_hex.result
     c.in_ok-make_room.ensures.printed put c.print_hex.ensures.printed

@@ -13,7 +13,7 @@ returns-clause-printed g c =
     let front = codes " other " ++ (decimal c.args.ether_type ++ codes " ") in
     let put : c.put-2.new.self ≡ page ++ front =
     c.put-2.ensures
-    ∙ ap (λ l. l ++ codes " ") (c.put_decimal.ensures.value ∙ ap (λ l. l ++ decimal c.from.result) c.put.ensures ∙ ap (λ n. (page ++ codes " other ") ++ decimal n) c.from.ensures)
+    ∙ ap (λ l. l ++ codes " ") (c.put_short.ensures.value ∙ ap (λ l. l ++ decimal c.args.ether_type) c.put.ensures)
     ∙ other-front page c.args.ether_type in
     subst (λ l. IsPrinted c.print_hex.result l page c.print_hex.new.page before after) (other-parts c.args.ether_type c.args.payload.now)
     (IsPrinted-put front (hex_word c.args.payload.now) page c.put-2.new.self c.print_hex.new.page before after c.print_hex.result put c.print_hex.ensures.printed)

@@ -15,7 +15,7 @@ returns-clause-printed g c =
     let front = codes " raw " ++ (decimal c.args.protocol ++ codes " ") in
     let put : c.put-2.new.self ≡ roomy ++ front =
     c.put-2.ensures
-    ∙ ap (λ l. l ++ codes " ") (c.put_decimal.ensures.value ∙ ap (λ l. l ++ decimal c.from.result) c.put.ensures ∙ ap (λ n. (roomy ++ codes " raw ") ++ decimal n) c.from.ensures)
+    ∙ ap (λ l. l ++ codes " ") (c.put_octet.ensures.value ∙ ap (λ l. l ++ decimal c.args.protocol) c.put.ensures)
     ∙ raw-front roomy c.args.protocol in
     subst (λ l. IsPrinted c.print_hex.result l page c.print_hex.new.page before after) (sym (raw-parts c.args.protocol c.args.payload.now))
     (IsPrinted-room front (hex_word c.args.payload.now) page roomy c.put-2.new.self c.print_hex.new.page before middle after c.print_hex.result

@@ -29,9 +29,9 @@ loop-rest-preserved g c =
         front = so_far.done.front ++ piece;
         joined = so_far.done.joined ∙ ap (λ l. so_far.done.front ++ l) cut ∙ sym (append_assoc so_far.done.front piece later);
       };
-      printed = subst (λ l. Passes (start ++ l) c.put_digits.new.page before now) (sym (encode_lower-append so_far.done.front piece))
-          (Passes-then (encode_lower so_far.done.front) (encode_lower piece) start c.loop-rest.page c.put_digits.new.page before (g.K.Sink.held c.loop-rest.sink) now so_far.printed
-          (Passes-room (encode_lower piece) c.loop-rest.page c.make_room.new.self c.put_digits.new.page (g.K.Sink.held c.loop-rest.sink) now c.in_ok-make_room.ensures.printed c.put_digits.ensures.value));
+      printed = subst (λ l. Passes (start ++ l) c.put_digits.new.self before now) (sym (encode_lower-append so_far.done.front piece))
+          (Passes-then (encode_lower so_far.done.front) (encode_lower piece) start c.loop-rest.page c.put_digits.new.self before (g.K.Sink.held c.loop-rest.sink) now so_far.printed
+          (Passes-room (encode_lower piece) c.loop-rest.page c.make_room.new.self c.put_digits.new.self (g.K.Sink.held c.loop-rest.sink) now c.in_ok-make_room.ensures.printed c.put_digits.ensures));
       later = omega (arith, so_far.later, c.in_ok-make_room.ensures.later);
     }
 
