@@ -74,7 +74,12 @@ type Area<'a> = Region<Until<'a, Where<Word<8>, IsLetter>, 2, Two>, Two>;
 #[test]
 fn a_gap_holds_any_bits_and_is_written_as_0(rt: HostRuntime) {
     let port = read_front::<Port>((), &[0, 80, 7, 8, 9]);
-    assert!(rt; port == Ok(Front { value: 80, bits: 32 }));
+    assert!(rt;
+        port == Ok(Front {
+            value: 80,
+            bits: 32
+        })
+    );
     assert!(rt; read_front::<Port>((), &[0, 80, 0, 0]) == port);
     assert!(rt; read_front::<Port>((), &[0, 80, 7]) == Err(Fault::unnamed().later_by(16)));
     let mut room = [0xff; 5];
@@ -93,7 +98,12 @@ fn a_measured_tail_is_read_in_the_context_of_its_octets(rt: HostRuntime) {
 #[test]
 fn a_region_is_just_its_octets(rt: HostRuntime) {
     let pair = read_front::<Pair>((), &[7, 8, 9]);
-    assert!(rt; pair == Ok(Front { value: [7, 8].as_slice(), bits: 16 }));
+    assert!(rt;
+        pair == Ok(Front {
+            value: [7, 8].as_slice(),
+            bits: 16
+        })
+    );
     assert!(rt; read_front::<Pair>((), &[7]) == Err(Fault::unnamed()));
     let mut room = [0xff; 3];
     assert!(rt; write::<Cursor<'_>, Pair>((), &[7, 8].as_slice(), &mut room) == (16, 16));
@@ -103,9 +113,21 @@ fn a_region_is_just_its_octets(rt: HostRuntime) {
 #[test]
 fn an_area_ends_at_an_octet_0(rt: HostRuntime) {
     let letter = read_front::<Area<'_>>((), b"a\0b");
-    assert!(rt; letter == Ok(Front { value: b"a".as_slice(), bits: 16 }));
+    assert!(rt;
+        letter
+            == Ok(Front {
+                value: b"a".as_slice(),
+                bits: 16
+            })
+    );
     let letters = read_front::<Area<'_>>((), b"abc");
-    assert!(rt; letters == Ok(Front { value: b"ab".as_slice(), bits: 16 }));
+    assert!(rt;
+        letters
+            == Ok(Front {
+                value: b"ab".as_slice(),
+                bits: 16
+            })
+    );
     let none = read_front::<Area<'_>>((), &[0, 7]);
     assert!(rt; none == read_front::<Area<'_>>((), &[0, 0]));
     assert!(rt; read_front::<Area<'_>>((), &[97, 7]) == Err(Fault::unnamed().later_by(8)));
