@@ -1,5 +1,5 @@
 -- The formats of the tests meet the conditions of their rules.
-use Rattle.std.proofs.Common.{◌≡◌, ℕ, ◌+◌, ◌*◌, ◌^◌, ◌<◌, ◌≤◌, ◌++◌, List, [], ◌∷◌, Bool, length, refl, ap, ◌∙◌, arith, length-append}
+use Rattle.std.proofs.Common.{◌≡◌, ℕ, ◌+◌, ◌*◌, ◌<◌, ◌≤◌, ◌++◌, List, [], ◌∷◌, Bool, length, refl, ap, arith, length-append}
 use Rattle.std.specs.Borrow.{Bor}
 use Rattle.narc_bits.specs.Bits.{bits, bits_of_number}
 use Rattle.narc_bits.specs.InternetSum.{total}
