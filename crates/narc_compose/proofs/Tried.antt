@@ -1,5 +1,5 @@
 -- The formats of the tests meet the conditions of their rules.
-use Rattle.std.proofs.Common.{◌≡◌, ℕ, ◌+◌, ◌*◌, ◌^◌, ◌<◌, ◌≤◌, nat_le, List, [], ◌∷◌, Bool, length, take, refl, sym, ap, ◌∙◌, subst, arith, lit<, lit≤}
+use Rattle.std.proofs.Common.{◌≡◌, ℕ, ◌≤◌, nat_le, List, [], ◌∷◌, Bool, length, take, refl, sym, ap, ◌∙◌, subst, arith, lit<, lit≤}
 use Rattle.std.specs.Borrow.{Bor}
 use Rattle.std.proofs.lemmas.Bool.{leb-true}
 use Rattle.std.proofs.lemmas.List.{take_all}
