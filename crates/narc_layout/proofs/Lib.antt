@@ -3,7 +3,6 @@ pub mod Rows
 pub mod Fronts
 pub mod Layouts
 pub mod BothLayout
-pub mod NamedLayout
 pub mod ScalarLayouts
 pub mod Views
 pub mod ContextLayouts
