@@ -1,5 +1,5 @@
 -- The formats of the tests meet the conditions of their rules.
-use Rattle.std.proofs.Common.{◌≡◌, ℕ, ◌+◌, ◌*◌, ◌^◌, ◌<◌, ◌≤◌, nat_le, List, [], ◌∷◌, Bool, length, take, refl, sym, ap, ◌∙◌, subst, arith, lit<, lit≤}
+use Rattle.std.proofs.Common.{◌≡◌, ℕ, ◌≤◌, nat_le, List, [], ◌∷◌, Bool, length, take, refl, sym, ap, ◌∙◌, subst, arith, lit<, lit≤}
 use Rattle.std.specs.Borrow.{Bor}
 use Rattle.std.proofs.lemmas.Bool.{leb-true}
 use Rattle.std.proofs.lemmas.List.{take_all}
@@ -14,6 +14,7 @@ use Rattle.narc_list.specs.Items.{InRow}
 use Rattle.narc_list.specs.Region.{region}
 use Rattle.narc_list.specs.Until.{StartsOther, UntilSound, CanList, filled, until}
 use Rattle.narc_list.specs.UntilLaws.{zero_spelled, until_fills}
+use Rattle.narc_list.specs.Counted.{counted}
 use Rattle.narc_compose.specs.Gap.{gapped}
 use Rattle.narc_compose.specs.Measured.{measured}
 
@@ -76,3 +77,8 @@ area_admitted v is =
       admitted = subst (CanList 2 (λ (c : Unit {0}). 2) (λ c. Unit {0}) letter) (sym is) one;
       filled = ap (λ l. length (filled 2 (λ (c : Unit {0}). 2) (λ c. Unit {0}) letter tt l)) is ∙ size;
     }
+
+-- two numbers of an octet each
+pub twins_sound : (counted (λ (l : List ℕ). l) 3 (λ (c : Unit {0}). 2) (λ c. Unit {0}) (word 8)).sound
+unfolding counted word
+twins_sound = record { item_sound = (lit≤ tt, lit≤ tt); item_valid = tt; fits = λ c ok. lit≤ tt; meets = λ h. refl; held = λ l h. record { value = l; is = refl } }

@@ -29,7 +29,12 @@ fn fault(field: u8, at: u64) -> Fault
 #[test]
 fn a_sequence_is_read_in_order(rt: HostRuntime) {
     let read = read_front::<Ports>((), &[0, 80, 1, 0, 9]);
-    assert!(rt; read == Ok(Front { value: (80, 256), bits: 32 }));
+    assert!(rt;
+        read == Ok(Front {
+            value: (80, 256),
+            bits: 32
+        })
+    );
     assert!(rt; width::<Cursor<'_>, Ports>() == 32);
 }
 
@@ -55,7 +60,12 @@ fn an_unnamed_fault_gets_the_name(rt: HostRuntime) {
 fn a_whole_format_is_refused_at_its_beginning(rt: HostRuntime) {
     assert!(rt; read_front::<Whole<Halves>>((), &[]) == Err(fault(IPV4_VERSION, 0)));
     let read = read_front::<Whole<Halves>>((), &[0x45]);
-    assert!(rt; read == Ok(Front { value: (4, 5), bits: 8 }));
+    assert!(rt;
+        read == Ok(Front {
+            value: (4, 5),
+            bits: 8
+        })
+    );
     assert!(rt; read_front::<Octets>((), &[4]) == Err(fault(IPV4_HEADER_LENGTH, 8)));
     assert!(rt; read_front::<Whole<Octets>>((), &[4]) == Err(fault(IPV4_HEADER_LENGTH, 0)));
     let mut room = [0xff, 0xff];
@@ -66,9 +76,20 @@ fn a_whole_format_is_refused_at_its_beginning(rt: HostRuntime) {
 #[test]
 fn the_second_part_depends_on_the_first(rt: HostRuntime) {
     let left = read_front::<Kinded>((), &[0, 7, 8]);
-    assert!(rt; left == Ok(Front { value: (0, Either::Left(7)), bits: 16 }));
+    assert!(rt;
+        left == Ok(Front {
+            value: (0, Either::Left(7)),
+            bits: 16
+        })
+    );
     let right = read_front::<Kinded>((), &[1, 7, 8]);
-    assert!(rt; right == Ok(Front { value: (1, Either::Right(1800)), bits: 24 }));
+    assert!(rt;
+        right
+            == Ok(Front {
+                value: (1, Either::Right(1800)),
+                bits: 24
+            })
+    );
 }
 
 #[test]

@@ -1,14 +1,13 @@
 //! The formats of Ethernet, written out and read.
-ghost use Rattle.std.specs.Prelude.{◌≡◌, ◌*◌, ◌≤◌, length};
+ghost use Rattle.std.specs.Prelude.{◌*◌, ◌≤◌, length};
 
-use crate::{ArpFormat, AsArp, EthHead};
-use narc_bits::{Cursor, Input, Steps, Writer};
+use crate::{ArpFormat, AsArp, EthHead, arp_format_is_sound, eth_head_is_sound};
+use narc_bits::{Cursor, Input, MAX_FRAME, Writer};
 use narc_compose::{Named, NoContext, Seq, Strip};
-use narc_format::{Fault, Format};
+use narc_format::{Format, Front, field, read_front};
 use narc_packet::Arp;
 use narc_scalar::{Const, Octets4, Octets6, Word};
-use std::marker::{Brand, PhantomData};
-use std::sync::ledger::{Blank, Ledger};
+use std::marker::PhantomData;
 
 /// The octets of an ARP request.
 const REQUEST: [u8; 28] = [
@@ -26,37 +25,16 @@ const REQUEST: [u8; 28] = [
 /// Both are of one type.
 fn are_one<T>(_alias: PhantomData<T>, _written: PhantomData<T>) {}
 
-fn read_counted<I: Input, F: Format<I, Ctx = ()>, L: Ledger>(
-    input: &mut I,
-    blank: Blank,
-) -> Result<F::Value, Fault>
-    requires sound { F.meaning.sound }
-    requires start { (I.scan input.old).place ≡ 0 }
-    requires name { blank.name ≡ L.name }
-    requires parts { blank.parts ≡ L.parts }
-    requires one { blank.parts ≡ 1 }
-{
-    let mut steps: Steps<L> = Steps::new(blank);
-    F::read((), input, &mut steps)
-}
-
-/// What F reads at the beginning of the input.
-fn read<I: Input, F: Format<I, Ctx = ()>>(input: &mut I) -> Result<F::Value, Fault>
-    requires sound { F.meaning.sound }
-    requires start { (I.scan input.old).place ≡ 0 }
-{
-    read_counted::<I, F, Brand>(input, Blank::new(1))
-}
-
-/// Writes a value by F into the room.
-fn write<I: Input, F: Format<I, Ctx = ()>>(value: &F::Value, room: &mut [u8])
+/// How many bits the value has by F, which are then at the front of the room.
+fn write<I: Input, F: Format<I, Ctx = ()>>(value: &F::Value, room: &mut [u8]) -> usize
     requires sound { F.meaning.sound }
     requires admitted { F.meaning.admits tt value.now }
-    requires small { length room.old ≤ 262144 }
+    requires small { length room.old ≤ MAX_FRAME }
     requires enough { length (F.meaning.spelling tt value.now) ≤ 8 * length room.old }
 {
-    let mut writer = Writer::new();
-    F::write((), value, room, &mut writer);
+    let size = F::size((), value);
+    F::write((), value, room, &mut Writer::new());
+    size
 }
 
 #[test]
@@ -65,8 +43,12 @@ fn the_header_is_these_fields_in_order(_rt: HostRuntime) {
         PhantomData::<EthHead>,
         PhantomData::<
             Seq<
-                Named<Octets6, 1>,
-                Seq<Named<Octets6, 2>, Named<Word<16>, 3>, NoContext>,
+                Named<Octets6, { field::ETHERNET_DESTINATION }>,
+                Seq<
+                    Named<Octets6, { field::ETHERNET_SOURCE }>,
+                    Named<Word<16>, { field::ETHERNET_TYPE }>,
+                    NoContext,
+                >,
                 NoContext,
             >,
         >,
@@ -81,15 +63,31 @@ fn an_arp_packet_is_these_fields_in_order(_rt: HostRuntime) {
             Strip<
                 Seq<
                     Seq<
-                        Seq<Named<Const<16, 1>, 4>, Named<Const<16, 2048>, 5>, NoContext>,
-                        Seq<Named<Const<8, 6>, 6>, Named<Const<8, 4>, 7>, NoContext>,
+                        Seq<
+                            Named<Const<16, 1>, { field::ARP_HARDWARE }>,
+                            Named<Const<16, 2048>, { field::ARP_PROTOCOL }>,
+                            NoContext,
+                        >,
+                        Seq<
+                            Named<Const<8, 6>, { field::ARP_HARDWARE_SIZE }>,
+                            Named<Const<8, 4>, { field::ARP_PROTOCOL_SIZE }>,
+                            NoContext,
+                        >,
                         NoContext,
                     >,
                     Seq<
-                        Named<Word<16>, 8>,
+                        Named<Word<16>, { field::ARP_OPERATION }>,
                         Seq<
-                            Seq<Named<Octets6, 9>, Named<Octets4, 10>, NoContext>,
-                            Seq<Named<Octets6, 11>, Named<Octets4, 12>, NoContext>,
+                            Seq<
+                                Named<Octets6, { field::ARP_SENDER_HARDWARE }>,
+                                Named<Octets4, { field::ARP_SENDER_PROTOCOL }>,
+                                NoContext,
+                            >,
+                            Seq<
+                                Named<Octets6, { field::ARP_TARGET_HARDWARE }>,
+                                Named<Octets4, { field::ARP_TARGET_PROTOCOL }>,
+                                NoContext,
+                            >,
                             NoContext,
                         >,
                         NoContext,
@@ -104,17 +102,7 @@ fn an_arp_packet_is_these_fields_in_order(_rt: HostRuntime) {
 
 #[test]
 fn an_arp_packet_is_read_and_written(rt: HostRuntime) {
-    let mut cursor = Cursor::new(&REQUEST);
-    match read::<Cursor<'_>, ArpFormat>(&mut cursor) {
-        Ok(arp) => {
-            assert!(rt; arp.op == 1);
-            assert!(rt; arp.sender_mac == [2, 0, 0, 0, 0, 0xbb]);
-            assert!(rt; arp.sender_ip == [10, 0, 0, 1]);
-            assert!(rt; arp.target_mac == [0; 6]);
-            assert!(rt; arp.target_ip == [10, 0, 0, 2]);
-        }
-        Err(_) => panic!(rt; "refused"),
-    }
+    arp_format_is_sound();
     let arp = Arp {
         op: 1,
         sender_mac: [2, 0, 0, 0, 0, 0xbb],
@@ -123,6 +111,48 @@ fn an_arp_packet_is_read_and_written(rt: HostRuntime) {
         target_ip: [10, 0, 0, 2],
     };
     let mut room = [0xff; 28];
-    write::<Cursor<'_>, ArpFormat>(&arp, &mut room);
+    assert!(rt; write::<Cursor<'_>, ArpFormat>(&arp, &mut room) == 8 * 28);
     assert!(rt; room == REQUEST);
+    assert!(rt;
+        read_front::<ArpFormat>((), &REQUEST)
+            == Ok(Front {
+                value: arp,
+                bits: 8 * 28
+            })
+    );
+}
+
+/// The header of a frame with an ARP packet.
+const HEADER: [u8; 14] = [
+    2, 0, 0, 0, 0, 0xaa, // destination
+    2, 0, 0, 0, 0, 0xbb, // source
+    8, 6, // type: ARP
+];
+
+#[test]
+fn a_header_is_read_and_written(rt: HostRuntime) {
+    eth_head_is_sound();
+    let header = ([2, 0, 0, 0, 0, 0xaa], ([2, 0, 0, 0, 0, 0xbb], 0x0806));
+    let mut room = [0xff; 14];
+    assert!(rt; write::<Cursor<'_>, EthHead>(&header, &mut room) == 8 * 14);
+    assert!(rt; room == HEADER);
+    assert!(rt;
+        read_front::<EthHead>((), &HEADER)
+            == Ok(Front {
+                value: header,
+                bits: 8 * 14
+            })
+    );
+}
+
+#[test]
+fn a_header_is_refused_at_the_field_that_is_cut_off(rt: HostRuntime) {
+    eth_head_is_sound();
+    match read_front::<EthHead>((), &HEADER[..13]) {
+        Err(fault) => {
+            assert!(rt; fault.field.number() == field::ETHERNET_TYPE);
+            assert!(rt; fault.at == 8 * 12);
+        }
+        Ok(_) => panic!(rt; "a header of 13 octets"),
+    }
 }

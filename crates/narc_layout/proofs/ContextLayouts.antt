@@ -1,4 +1,4 @@
--- Formats of whole octets in a context: sound, laid out as octets, and refused by rows. (General: for a crate below.)
+-- Formats of whole octets in a context: sound, laid out as octets, and refused by rows.
 use Rattle.std.proofs.Common.{◌≡◌, ℕ, ◌+◌, ◌≤◌, ◌↔◌, Bool, true, List, ◌++◌, length, drop, Some, None}
 use Rattle.narc_bits.specs.Octets.{IsOctets}
 use Rattle.narc_bits.specs.Bits.{bits}
@@ -7,6 +7,7 @@ use Rattle.narc_format.specs.Meaning.{Meaning}
 use Rattle.narc_format.specs.Laws.{Laws}
 use Rattle.narc_format.specs.Rows.{Row, RefusalView, first_failing}
 use Rattle.narc_layout.specs.FirstFault.{IsFirstFault}
+use Rattle.narc_layout.proofs.Layouts as plain
 use Rattle.narc_layout.proofs.Layouts.{Begins}
 
 -- in a valid context, exactly the values in range stand, each spelled by so many octets
@@ -32,3 +33,23 @@ pub record IsJudged {C V : Type 0} (m : Meaning C V) (InRange : C → V → Type
 pub record IsLayout {C V : Type 0} (m : Meaning C V) (Ok : C → Type 0) (InRange : C → V → Type 0) (octets_of : V → List ℕ) (size : ℕ) (value : (skip : ℕ) → List ℕ → V) (rows : C → (start skip : ℕ) → List ℕ → List Row) : Type 0 where
   pub shape : IsShaped m Ok InRange octets_of size
   pub refusals : IsJudged m InRange octets_of value rows
+
+-- a layout that needs no context
+module _ {V : Type 0} {m : Meaning (Unit {0}) V} {InRange : V → Type 0} {octets_of : V → List ℕ} {size : ℕ} {value : (skip : ℕ) → List ℕ → V} {rows : (start skip : ℕ) → List ℕ → List Row}
+    (L : IsLayout m (λ c. Unit {0}) (λ c. InRange) octets_of size value (λ c. rows)) where
+  plain_shape : plain.IsShaped m InRange octets_of size
+  plain_shape = record {
+    laws = L.shape.laws;
+    sound = L.shape.sound;
+    valid = L.shape.valid tt tt;
+    whole = L.shape.whole;
+    depth = L.shape.depth;
+    alike = L.shape.alike;
+    admits = L.shape.admits tt tt;
+    stands = L.shape.stands tt;
+    sized = L.shape.sized tt;
+    each = L.shape.each tt;
+  }
+
+  pub plain_layout : plain.IsLayout m InRange octets_of size rows
+  plain_layout = record { shape = plain_shape; refusals = record { refuses = L.refusals.refuses tt; passes = L.refusals.passes tt; places = L.refusals.places tt } }

@@ -1,9 +1,10 @@
--- The layout of a single field, with its name or without one (field 0), in a context. (General: for a crate below.)
+-- The layout of a single field, with its name or without one (field 0), in a context.
 use Rattle.std.proofs.Common.{◌≡◌, ℕ, ◌+◌, ◌≤◌, ◌↔◌, Bool, true, false, List, [], ◌∷◌, ◌++◌, drop, Some, None, refl, ap, ◌∙◌, arith}
 use Rattle.narc_bits.specs.Octets.{IsOctets}
 use Rattle.narc_bits.specs.Bits.{bits}
 use Rattle.narc_format.specs.Faults.{named_by, unnamed_fault}
 use Rattle.narc_format.specs.declared.fault.Fault.{Fault}
+use Rattle.narc_format.specs.declared.field.TheConstants.{COUNT}
 use Rattle.narc_format.specs.Meaning.{Meaning}
 use Rattle.narc_compose.specs.Named.{named}
 use Rattle.narc_compose.specs.NamedLaws.{named_laws}
@@ -48,7 +49,7 @@ module _ {C V : Type 0} {m : Meaning C V} {Ok : C → Type 0} {InRange : C → V
     };
   }
 
-  module _ (field : ℕ) (some : 1 ≤ field) (known : field ≤ 30) where
+  module _ (field : ℕ) (some : 1 ≤ field) (known : field ≤ COUNT) where
     shape_named : IsShaped (named field m) Ok InRange octets_of size
     unfolding named
     shape_named = record {

@@ -4,7 +4,6 @@ pub mod RowSteps
 pub mod Fronts
 pub mod Layouts
 pub mod BothLayout
-pub mod NamedLayout
 pub mod ScalarLayouts
 pub mod Views
 pub mod ContextLayouts

@@ -1,4 +1,4 @@
--- Formats by the octets that stand for their values, of any length, and refused by rows. (General: for a crate below.)
+-- Formats by the octets that stand for their values, of any length, and refused by rows.
 use Rattle.std.proofs.Common.{◌≡◌, ℕ, ◌+◌, ◌*◌, ◌-◌, ◌<◌, ◌≤◌, ◌↔◌, ◌⊎◌, Bool, true, false, List, [], ◌∷◌, ◌++◌, length, take, drop, Option, Some, None, refl, sym, ap, ◌∙◌, subst, append_assoc, arith, inl, inr, length-append}
 use Rattle.std.proofs.lemmas.List.{drop_at}
 use Rattle.narc_bits.specs.Octets.{IsOctets}

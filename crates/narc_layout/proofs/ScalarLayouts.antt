@@ -9,84 +9,51 @@ use Rattle.narc_bits.proofs.Octets.{IsOctets-take, IsOctets-drop, IsOctets-big_e
 use Rattle.narc_bits.proofs.Scans.{bits-take}
 use Rattle.narc_bits.proofs.Spelled.{bits_same, bits-big_endian, length-big_endian}
 use Rattle.narc_scalar.specs.Word.{word}
-use Rattle.narc_scalar.specs.WordLaws.{word_laws}
 use Rattle.narc_scalar.specs.Octets.{fixed_octets}
 use Rattle.narc_scalar.specs.OctetsLaws.{fixed_octets_laws}
 use Rattle.narc_scalar.specs.Constant.{constant}
 use Rattle.narc_scalar.specs.ConstantLaws.{constant_laws}
 use Rattle.narc_compose.specs.Named.{named}
+use Rattle.narc_format.specs.declared.field.TheConstants.{COUNT}
 use Rattle.narc_format.specs.Rows.{row, differs}
 use Rattle.narc_layout.proofs.NetworkOrder.{number_of-big_endian}
-use Rattle.narc_layout.proofs.Layouts.{IsShaped, IsLayout}
-use Rattle.narc_layout.proofs.NamedLayout.{IsUnnamed, named_layout}
+use Rattle.narc_layout.proofs.Layouts.{IsLayout}
+use Rattle.narc_layout.proofs.ContextLayouts.{IsShaped, plain_layout}
+use Rattle.narc_layout.proofs.FieldLayout.{IsUnnamed, named_layout}
+use Rattle.narc_layout.proofs.TestLayout.{shape_word, unnamed_word}
 use Rattle.narc_layout.proofs.Fronts.{few, enough, long, cut, is_number, below}
 
 -- a number of k octets
 module _ (k : ℕ) (some : 1 ≤ k) (most : k ≤ 8) where
-  abbrev InWord : ℕ → Type 0
-  InWord v = v < 2 ^ (8 * k)
-
-  whole_octets : nat_eq (8 * k % 8) 0 ≡ true
-  whole_octets = let e : 8 * k % 8 ≡ 0 = omega arith in ap (λ n. nat_eq n 0) e
-
-  shape_word : IsShaped (word (8 * k)) InWord (big_endian k) k
-  unfolding word
-  shape_word = record {
-    laws = word_laws (8 * k);
-    sound = (omega (arith, some), omega (arith, most));
-    valid = tt;
-    whole = whole_octets;
-    depth = refl;
-    alike = λ v w e. e;
-    admits = λ v. (λ h. h, λ h. h);
-    stands = λ v b. (λ p. (p.0, p.1 ∙ sym (bits-big_endian k v)), λ h. (h.0, h.1 ∙ bits-big_endian k v));
-    sized = λ v h. length-big_endian k v;
-    each = λ v h. IsOctets-big_endian k v;
-  }
-
-  unnamed_word : IsUnnamed (word (8 * k)) InWord (big_endian k) (λ skip x. is_shorter x (skip + k))
-  unfolding word
-  unnamed_word = record {
-    refuses = λ skip x each f. (λ p. ((few k skip x some).0 p.0, p.1), λ h. ((few k skip x some).1 h.0, h.1));
-    passes = λ skip x each. (
-      λ h. record {
-        found = number_of (take k (drop skip x));
-        in_range = below k skip x each h;
-        later = drop k (drop skip x);
-        joined = sym (take-append-drop k (drop skip x)) ∙ ap (λ l. l ++ drop k (drop skip x)) (is_number k skip x each h);
-      },
-      λ p. long k skip x (big_endian k p.found) p.later some (length-big_endian k p.found) p.joined,
-    );
-  }
-
-  pub word_layout : (field : ℕ) → 1 ≤ field → field ≤ 30 → IsLayout (named field (word (8 * k))) InWord (big_endian k) k (λ start skip x. row field (start + skip) (is_shorter x (skip + k)) ∷ [])
-  word_layout field low high = named_layout field low high shape_word unnamed_word
+  pub word_layout : (field : ℕ) → 1 ≤ field → field ≤ COUNT
+      → IsLayout (named field (word (8 * k))) (λ v. v < 2 ^ (8 * k)) (big_endian k) k (λ start skip x. row field (start + skip) (is_shorter x (skip + k)) ∷ [])
+  word_layout field low high = plain_layout (named_layout (shape_word k some most) (unnamed_word k some most) field low high)
 
 -- k octets
 module _ (k : ℕ) (some : 1 ≤ k) where
   abbrev AreOctets : List ℕ → Type 0
   AreOctets v = (length v ≡ k) × IsOctets v
 
-  shape_octets : IsShaped (fixed_octets k) AreOctets (λ v. v) k
+  shape_octets : IsShaped (fixed_octets k) (λ c. Unit {0}) (λ c. AreOctets) (λ v. v) k
   unfolding fixed_octets
   shape_octets = record {
     laws = fixed_octets_laws k;
     sound = tt;
-    valid = tt;
+    valid = λ c ok. tt;
     whole = refl;
     depth = refl;
     alike = λ v w e. e;
-    admits = λ v. (λ h. h, λ h. h);
-    stands = λ v b. (λ p. ((p.size, p.each), p.is), λ h. record { size = h.0.0; each = h.0.1; is = h.1 });
-    sized = λ v h. h.0;
-    each = λ v h. h.1;
+    admits = λ c ok v. (λ h. h, λ h. h);
+    stands = λ c v b. (λ p. ((p.size, p.each), p.is), λ h. record { size = h.0.0; each = h.0.1; is = h.1 });
+    sized = λ c v h. h.0;
+    each = λ c v h. h.1;
   }
 
-  unnamed_octets : IsUnnamed (fixed_octets k) AreOctets (λ v. v) (λ skip x. is_shorter x (skip + k))
+  unnamed_octets : IsUnnamed (fixed_octets k) (λ c. AreOctets) (λ v. v) (λ skip x. take k (drop skip x)) (λ c skip x. is_shorter x (skip + k))
   unfolding fixed_octets
   unnamed_octets = record {
-    refuses = λ skip x each f. (λ p. ((few k skip x some).0 p.0, p.1), λ h. ((few k skip x some).1 h.0, h.1));
-    passes = λ skip x each. (
+    refuses = λ c skip x each f. (λ p. ((few k skip x some).0 p.0, p.1), λ h. ((few k skip x some).1 h.0, h.1));
+    passes = λ c skip x each. (
       λ h. record {
         found = take k (drop skip x);
         in_range = (cut k skip x h, IsOctets-take k (drop skip x) (IsOctets-drop skip x each));
@@ -95,10 +62,11 @@ module _ (k : ℕ) (some : 1 ≤ k) where
       },
       λ p. long k skip x p.found p.later some p.in_range.0 p.joined,
     );
+    reads = λ c skip x v later range joined. ap (take k) joined ∙ take_at v later k range.0;
   }
 
-  pub octets_layout : (field : ℕ) → 1 ≤ field → field ≤ 30 → IsLayout (named field (fixed_octets k)) AreOctets (λ v. v) k (λ start skip x. row field (start + skip) (is_shorter x (skip + k)) ∷ [])
-  octets_layout field low high = named_layout field low high shape_octets unnamed_octets
+  pub octets_layout : (field : ℕ) → 1 ≤ field → field ≤ COUNT → IsLayout (named field (fixed_octets k)) AreOctets (λ v. v) k (λ start skip x. row field (start + skip) (is_shorter x (skip + k)) ∷ [])
+  octets_layout field low high = plain_layout (named_layout shape_octets unnamed_octets field low high)
 
 -- one number of k octets
 module _ (k n : ℕ) (some : 1 ≤ k) (most : k ≤ 8) (fits : n < 2 ^ (8 * k)) where
@@ -108,19 +76,19 @@ module _ (k n : ℕ) (some : 1 ≤ k) (most : k ≤ 8) (fits : n < 2 ^ (8 * k)) 
   abbrev octets_of_n : Unit {0} → List ℕ
   octets_of_n u = big_endian k n
 
-  shape_constant : IsShaped (constant (8 * k) n) Always octets_of_n k
-  unfolding constant
+  shape_constant : IsShaped (constant (8 * k) n) (λ c. Unit {0}) (λ c. Always) octets_of_n k
+  unfolding constant word
   shape_constant = record {
     laws = constant_laws (8 * k) n;
     sound = record { some = omega (arith, some); width = omega (arith, most); fits = fits };
-    valid = tt;
-    whole = whole_octets k some most;
+    valid = λ c ok. tt;
+    whole = (shape_word k some most).whole;
     depth = refl;
     alike = λ v w e. refl;
-    admits = λ v. (λ h. h, λ h. h);
-    stands = λ v b. (λ p. (tt, p ∙ sym (bits-big_endian k n)), λ h. h.1 ∙ bits-big_endian k n);
-    sized = λ v h. length-big_endian k n;
-    each = λ v h. IsOctets-big_endian k n;
+    admits = λ c ok v. (λ h. h, λ h. h);
+    stands = λ c v b. (λ p. (tt, p ∙ sym (bits-big_endian k n)), λ h. h.1 ∙ bits-big_endian k n);
+    sized = λ c v h. length-big_endian k n;
+    each = λ c v h. IsOctets-big_endian k n;
   }
 
   abbrev is_other : (skip : ℕ) → List ℕ → Bool
@@ -149,23 +117,24 @@ module _ (k n : ℕ) (some : 1 ≤ k) (most : k ≤ 8) (fits : n < 2 ^ (8 * k)) 
       let front = bits_same (take k y) (big_endian k n) (IsOctets-take k y each) (IsOctets-big_endian k n) (bits-take y k size ∙ e ∙ sym (bits-big_endian k n)) in
       sym (take-append-drop k y) ∙ ap (λ l. l ++ drop k y) front
 
-  unnamed_constant : IsUnnamed (constant (8 * k) n) Always octets_of_n is_other
+  unnamed_constant : IsUnnamed (constant (8 * k) n) (λ c. Always) octets_of_n (λ skip x. tt) (λ c. is_other)
   unfolding constant
   unnamed_constant = record {
-    refuses = λ skip x each f. (
+    refuses = λ c skip x each f. (
       λ p. (true_from_ne_false (is_other skip x) (λ h. p.0 (refused skip x each h)), p.1),
       λ h. (λ e. let no : is_other skip x ≡ false = not_other skip x (drop k (drop skip x)) (spelled_there (drop skip x) (IsOctets-drop skip x each) e) in absurd (true≢false (sym h.0 ∙ no)), h.1),
     );
-    passes = λ skip x each. (
+    passes = λ c skip x each. (
       λ h. record { found = tt; in_range = tt; later = drop k (drop skip x); joined = sym (take-append-drop k (drop skip x)) ∙ ap (λ l. l ++ drop k (drop skip x)) (there skip x each h) },
       λ p. not_other skip x p.later p.joined,
     );
+    reads = λ c skip x v later range joined. refl;
   } where
     refused : (skip : ℕ) (x : List ℕ) → IsOctets x → is_other skip x ≡ false → take (8 * k) (bits (drop skip x)) ≡ bits_of_number (8 * k) n
     refused skip x each h =
         let p = or_parts (is_shorter x (skip + k)) (differs (number_at x skip k) n) h in
         sym (bits-take (drop skip x) k (enough k skip x p.0)) ∙ ap bits (there skip x each h) ∙ bits-big_endian k n
 
-  pub constant_layout : (field : ℕ) → 1 ≤ field → field ≤ 30
+  pub constant_layout : (field : ℕ) → 1 ≤ field → field ≤ COUNT
       → IsLayout (named field (constant (8 * k) n)) Always octets_of_n k (λ start skip x. row field (start + skip) (is_shorter x (skip + k) || differs (number_at x skip k) n) ∷ [])
-  constant_layout field low high = named_layout field low high shape_constant unnamed_constant
+  constant_layout field low high = plain_layout (named_layout shape_constant unnamed_constant field low high)

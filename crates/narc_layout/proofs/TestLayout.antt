@@ -1,4 +1,4 @@
--- The layouts of numbers, and of numbers that pass a test in a context. (General: for a crate below.)
+-- The layouts of numbers, and of numbers that pass a test in a context.
 use Rattle.std.proofs.Common.{◌≡◌, ℕ, ◌+◌, ◌-◌, ◌*◌, ◌%◌, ◌^◌, ◌<◌, ◌≤◌, ◌↔◌, Bool, true, false, not, ◌||◌, List, [], ◌∷◌, ◌++◌, length, take, drop, nat_eq, IsTrue, refl, sym, ap, ◌∙◌, subst, arith, take-append-drop, inl, inr}
 use Rattle.std.proofs.lemmas.List.{take_at}
 use Rattle.narc_bits.specs.Octets.{IsOctets, big_endian, number_of, number_at, is_shorter}

@@ -4,7 +4,9 @@ ghost use Rattle.narc_list.specs.Bytes.{all_octets};
 ghost use Rattle.narc_list.specs.BytesLaws.{all_octets_laws};
 ghost use Rattle.narc_compose.specs.declared.either.Either.TheVariants.{Left, Right};
 
-use crate::{Carry, Choose, Either, Named, NoContext, Part, Parted, Pick, Seq, SeqTail, Strip, Then, Union};
+use crate::{
+    Carry, Choose, Either, Named, NoContext, Part, Parted, Pick, Seq, SeqTail, Strip, Then, Union,
+};
 use narc_bits::{Cursor, Steps, Writer};
 use narc_format::field::{IPV4_HEADER_LENGTH, IPV4_VERSION, UDP_DESTINATION, UDP_SOURCE};
 use narc_format::{Fault, Tail};

@@ -26,12 +26,6 @@ in_range = record {
   target_ip = (refl, IsOctets-big_endian 4 0x0a000002);
 }
 
-pub read-requires-clause-sound : goal.read-requires-clause-sound
-read-requires-clause-sound g c = arp_layout.shape.sound
-
-pub write-requires-clause-sound : goal.write-requires-clause-sound
-write-requires-clause-sound g c = arp_layout.shape.sound
-
 pub write-requires-clause-admitted : goal.write-requires-clause-admitted
 write-requires-clause-admitted g c = (arp_layout.shape.admits request).1 in_range
 

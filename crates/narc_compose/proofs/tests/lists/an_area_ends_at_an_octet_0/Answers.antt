@@ -1,4 +1,3 @@
-use Rattle.std.proofs.Common.{refl}
 use Rattle.narc_compose.proofs.Tried.{area_admitted}
 use Rattle.narc_compose.proofs.tests.lists.an_area_ends_at_an_octet_0.Goals as goal
 
