@@ -3,20 +3,12 @@ use Rattle.std.proofs.Common.{◌≡◌, ℕ, zero, suc, ◌+◌, ◌*◌, ◌-�
 use Rattle.std.proofs.lemmas.Bool.{eqb-true}
 use Rattle.narc_bits.specs.Octets.{IsOctets, big_endian}
 use Rattle.narc_bits.specs.Bits.{bits, bits_of_number, overlay}
-use Rattle.narc_bits.specs.InternetSum.{total, folded, checksum}
+use Rattle.narc_bits.specs.InternetSum.{total, complement, checksum}
 use Rattle.narc_bits.proofs.Spelled.{bits-overlay, bits-big_endian, length-big_endian}
 use Rattle.narc_bits.proofs.Sums.{total-append}
 use Rattle.narc_format.specs.Meaning.{Meaning}
-use Rattle.narc_sum.specs.Checked.{with_word, checksum as written_checksum, never_zero}
+use Rattle.narc_sum.specs.Checked.{with_word, sealing, never_zero}
 use Rattle.narc_layout.proofs.SumReads.{sum_of_bits, sum_of_octets, sum_again}
-
--- the complement of a folded sum, as a remainder
-complement_is : (n : ℕ) → 0 < n → 65535 - folded n ≡ (65535 - n % 65535) % 65535
-unfolding folded
-complement_is zero some = absurd (none some) where
-  none : 0 < 0 → ⊥
-  none h = omega (arith, h)
-complement_is (suc n) some = omega arith
 
 -- 0 is written as all ones
 pub never_zero_is : (n : ℕ) → never_zero n ≡ (if nat_eq n 0 then 65535 else n)
@@ -40,9 +32,9 @@ module _ {C V : Type 0} (F : Meaning C V) (pseudo_of : C → ℕ → List ℕ) (
       ∙ sym (bits-overlay (octets 0) hole (big_endian 2 word) (omega (arith, room, length-big_endian 2 word)))
       ∙ ap bits (put word)
 
-  pub checksum_is : length (pseudo_of c (length (octets 0))) % 2 ≡ 0 → 0 < total (pseudo_of c (length (octets 0))) → written_checksum pseudo_of hole F c v ≡ checksum (pseudo_of c (length (octets 0)) ++ octets 0)
-  checksum_is even some =
+  pub checksum_is : length (pseudo_of c (length (octets 0))) % 2 ≡ 0 → sealing pseudo_of hole F c v ≡ checksum (pseudo_of c (length (octets 0)) ++ octets 0)
+  checksum_is even =
       let pseudo = pseudo_of c (length (octets 0)) in
       let sum : sum_of_bits pseudo_of c (with_word pseudo_of hole F 0 c v) ≡ total (pseudo ++ octets 0) =
       ap (sum_of_bits pseudo_of c) (word_is 0) ∙ sum_again pseudo_of c (octets 0) each ∙ sym (total-append pseudo (octets 0) even) in
-      ap (λ n. 65535 - folded n) sum ∙ complement_is (total (pseudo ++ octets 0)) (omega (arith, some, total-append pseudo (octets 0) even))
+      ap complement sum

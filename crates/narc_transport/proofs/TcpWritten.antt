@@ -16,7 +16,7 @@ use Rattle.narc_compose.specs.Gap.{gapped}
 use Rattle.narc_compose.specs.Named.{named}
 use Rattle.narc_compose.specs.Seq.{seq, seq_tail}
 use Rattle.narc_list.specs.Bytes.{all_octets}
-use Rattle.narc_sum.specs.Checked.{checked_tail, checksum as written_checksum}
+use Rattle.narc_sum.specs.Checked.{checked_tail, sealing}
 use Rattle.narc_layout.proofs.SumSpelled.{word_is, checksum_is}
 use Rattle.narc_packet.specs.Tcp.{tcp_octets, tcp_pseudo_header, canonical_tcp}
 use Rattle.narc_transport.proofs.PseudoSums.{pseudo_sum}
@@ -228,11 +228,11 @@ tcp_written c ok s f shortest =
     let spelled = segment_spelled c w area (region_spelled n t.options.spelled (omega (arith, b.offset_is, f.most)) ∙ ap bits area_is) in
     let each = raw_each w area in_area f.in_range.payload in
     let room : 16 + 2 ≤ length (raw_octets w area 0) = omega arith in
-    let sum = checksum_is tcp_segment tcp_pseudo_of 16 c w (raw_octets w area) spelled each room (put_word w area) (pseudo_even e ok.0 (length (raw_octets w area 0))) (omega (arith, pseudo_sum e.src e.dst ok.0.0.0 ok.0.1.0 6 (length (raw_octets w area 0)))) in
+    let sum = checksum_is tcp_segment tcp_pseudo_of 16 c w (raw_octets w area) spelled each room (put_word w area) (pseudo_even e ok.0 (length (raw_octets w area 0))) in
     let word : bits_of ≡ (20 + length area) / 4 * 4096 + t.reserved * 64 + t.flags = omega (arith, shortest) in
     let octets_are : (k : ℕ) → raw_octets w area k ≡ tcp_octets v k area = λ k.
     ap (λ m. ((big_endian 2 t.sport ++ big_endian 2 t.dport) ++ (big_endian 4 t.seq ++ big_endian 4 t.ack) ++ (big_endian 2 m ++ big_endian 2 t.window) ++ big_endian 2 k) ++ (big_endian 2 t.urgent ++ area ++ t.payload.now)) word in
     let sum_of = λ (o : List ℕ). checksum (tcp_pseudo_header e.src e.dst (length o) ++ o) in
-    word_is tcp_segment tcp_pseudo_of 16 c w (raw_octets w area) spelled each room (put_word w area) (written_checksum tcp_pseudo_of 16 tcp_segment c w)
+    word_is tcp_segment tcp_pseudo_of 16 c w (raw_octets w area) spelled each room (put_word w area) (sealing tcp_pseudo_of 16 tcp_segment c w)
     ∙ ap (λ k. bits (raw_octets w area k)) (sum ∙ ap sum_of (octets_are 0))
     ∙ ap bits (octets_are (sum_of (tcp_octets v 0 area)))

@@ -16,7 +16,7 @@ use Rattle.narc_compose.specs.Strip.{stripped}
 use Rattle.narc_list.specs.Bytes.{all_octets}
 use Rattle.narc_list.specs.Pad.{padding}
 use Rattle.narc_list.specs.Region.{region}
-use Rattle.narc_sum.specs.Checked.{checked_or_none, with_word, checksum as written_checksum, never_zero}
+use Rattle.narc_sum.specs.Checked.{checked_or_none, with_word, sealing, never_zero}
 use Rattle.narc_layout.proofs.SumSpelled.{never_zero_is, word_is, checksum_is}
 use Rattle.narc_packet.specs.declared.packet.Udp.{Udp}
 use Rattle.narc_packet.specs.Udp.{udp_length, udp_octets, udp_pseudo_header, udp_checksum, canonical_udp}
@@ -93,11 +93,11 @@ udp_written e ok u f =
     let each : IsOctets (octets 0) = IsOctets-append (big_endian 2 u.sport ++ big_endian 2 u.dport ++ big_endian 2 n ++ big_endian 2 0) u.payload.now (IsOctets-append (big_endian 2 u.sport ++ big_endian 2 u.dport) (big_endian 2 n ++ big_endian 2 0) (IsOctets-append (big_endian 2 u.sport) (big_endian 2 u.dport) (IsOctets-big_endian 2 u.sport) (IsOctets-big_endian 2 u.dport)) (IsOctets-append (big_endian 2 n) (big_endian 2 0) (IsOctets-big_endian 2 n) (IsOctets-big_endian 2 0))) f.in_range.payload in
     let spelled = datagram_spelled c u in
     let room : 6 + 2 ≤ length (octets 0) = omega arith in
-    let sum = checksum_is udp_datagram udp_pseudo_of 6 c w octets spelled each room (put_word v) (pseudo_even e ok (length (octets 0))) (omega (arith, pseudo_sum e.src e.dst ok.0.0 ok.1.0 17 (length (octets 0)))) in
-    let same : never_zero (written_checksum udp_pseudo_of 6 udp_datagram c w) ≡ udp_checksum e.src e.dst v =
+    let sum = checksum_is udp_datagram udp_pseudo_of 6 c w octets spelled each room (put_word v) (pseudo_even e ok (length (octets 0))) in
+    let same : never_zero (sealing udp_pseudo_of 6 udp_datagram c w) ≡ udp_checksum e.src e.dst v =
     ap never_zero sum ∙ never_zero_is (checksum (udp_pseudo_header e.src e.dst (length (octets 0)) ++ octets 0)) ∙ ap (λ k. let s = checksum (udp_pseudo_header e.src e.dst k ++ octets 0) in if nat_eq s 0 then 65535 else s) long in
     let none : n - n ≡ 0 = omega arith in
-    ap (λ k. with_word udp_pseudo_of 6 udp_datagram (never_zero (written_checksum udp_pseudo_of 6 udp_datagram c w)) c w ++ bits (replicate k 0)) none
-    ∙ append-nil (with_word udp_pseudo_of 6 udp_datagram (never_zero (written_checksum udp_pseudo_of 6 udp_datagram c w)) c w)
-    ∙ word_is udp_datagram udp_pseudo_of 6 c w octets spelled each room (put_word v) (never_zero (written_checksum udp_pseudo_of 6 udp_datagram c w))
+    ap (λ k. with_word udp_pseudo_of 6 udp_datagram (never_zero (sealing udp_pseudo_of 6 udp_datagram c w)) c w ++ bits (replicate k 0)) none
+    ∙ append-nil (with_word udp_pseudo_of 6 udp_datagram (never_zero (sealing udp_pseudo_of 6 udp_datagram c w)) c w)
+    ∙ word_is udp_datagram udp_pseudo_of 6 c w octets spelled each room (put_word v) (never_zero (sealing udp_pseudo_of 6 udp_datagram c w))
     ∙ ap (λ k. bits (octets k)) same
