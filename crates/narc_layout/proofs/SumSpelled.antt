@@ -40,9 +40,13 @@ module _ {C V : Type 0} (F : Meaning C V) (pseudo_of : C → ℕ → List ℕ) (
       ∙ sym (bits-overlay (octets 0) hole (big_endian 2 word) (omega (arith, room, length-big_endian 2 word)))
       ∙ ap bits (put word)
 
-  pub checksum_is : length (pseudo_of c (length (octets 0))) % 2 ≡ 0 → 0 < total (pseudo_of c (length (octets 0))) → written_checksum pseudo_of hole F c v ≡ checksum (pseudo_of c (length (octets 0)) ++ octets 0)
-  checksum_is even some =
+  pub checksum_of : length (pseudo_of c (length (octets 0))) % 2 ≡ 0 → 0 < total (pseudo_of c (length (octets 0)) ++ octets 0) → written_checksum pseudo_of hole F c v ≡ checksum (pseudo_of c (length (octets 0)) ++ octets 0)
+  checksum_of even some =
       let pseudo = pseudo_of c (length (octets 0)) in
       let sum : sum_of_bits pseudo_of c (with_word pseudo_of hole F 0 c v) ≡ total (pseudo ++ octets 0) =
       ap (sum_of_bits pseudo_of c) (word_is 0) ∙ sum_again pseudo_of c (octets 0) each ∙ sym (total-append pseudo (octets 0) even) in
-      ap (λ n. 65535 - folded n) sum ∙ complement_is (total (pseudo ++ octets 0)) (omega (arith, some, total-append pseudo (octets 0) even))
+      ap (λ n. 65535 - folded n) sum ∙ complement_is (total (pseudo ++ octets 0)) some
+
+  -- the same behind a pseudo header with a sum
+  pub checksum_is : length (pseudo_of c (length (octets 0))) % 2 ≡ 0 → 0 < total (pseudo_of c (length (octets 0))) → written_checksum pseudo_of hole F c v ≡ checksum (pseudo_of c (length (octets 0)) ++ octets 0)
+  checksum_is even some = checksum_of even (omega (arith, some, total-append (pseudo_of c (length (octets 0))) (octets 0) even))
