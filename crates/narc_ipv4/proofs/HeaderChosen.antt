@@ -164,7 +164,7 @@ fields_chosen n h r k total protocol area few least small known m most =
       };
     }
 
-summed_admits : (n : ℕ) → n < 2 ^ 64 → (v : RawHeader) → AreFields n v → ip_summed.admits n v
+pub summed_admits : (n : ℕ) → n < 2 ^ 64 → (v : RawHeader) → AreFields n v → ip_summed.admits n v
 unfolding named checked seq
 summed_admits n ok v r = record { valid = ok; admitted = fields_admit n ok v r }
 

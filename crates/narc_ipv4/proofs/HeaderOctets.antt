@@ -1,5 +1,6 @@
 -- The octets that stand for a header are those of it.
 use Rattle.std.proofs.Common.{◌≡◌, ℕ, ◌+◌, ◌*◌, ◌-◌, ◌/◌, ◌%◌, ◌^◌, ◌<◌, ◌↔◌, Bool, true, false, not, List, [], ◌∷◌, ◌++◌, length, nat_eq, IsTrue, refl, sym, ap, ◌∙◌, subst, arith, length-append, append-nil, if◌then◌else◌}
+use Rattle.std.specs.Prelude.{flat_map}
 use Rattle.std.specs.Borrow.{Bor}
 use Rattle.std.proofs.Math.Nat.{mod-eq_of_lt}
 use Rattle.std.proofs.lemmas.Bool.{eqb-true}
@@ -12,6 +13,7 @@ use Rattle.narc_layout.proofs.NetworkOrder.{number_of_lt, number_of-big_endian, 
 use Rattle.narc_layout.proofs.ReadLayout.{IsRead}
 use Rattle.narc_layout.proofs.SameRows.{fault_same}
 use Rattle.narc_layout.proofs.ViewReads.{read_as}
+use Rattle.narc_packet.specs.Options.{ip_option, ip_options_in}
 use Rattle.narc_packet.specs.Refusal.{header_length, ipv4_rows}
 use Rattle.narc_compose.specs.Named.{named}
 use Rattle.narc_compose.specs.Seq.{seq}
@@ -23,7 +25,7 @@ use Rattle.narc_options.proofs.Areas.{ip_area_of, area_of_ip}
 use Rattle.narc_ipv4.specs.declared.as_header.IpHeader.{IpHeader}
 use Rattle.narc_ipv4.specs.Header.{is_version, is_header_length, is_flags, header_length_of, area_length_of, RawBefore, RawHeader, fragment_word_of, header_of, raw_header, ip_head}
 use Rattle.narc_ipv4.specs.Laws.{ip_head_laws}
-use Rattle.narc_ipv4.specs.HeaderOctets.{packet_of, IsHeader, IsItsOctets, IsRefusedByRow}
+use Rattle.narc_ipv4.specs.HeaderOctets.{packet_of, IsHeader, FitsHeader, IsItsOctets, IsRefusedByRow}
 use Rattle.narc_ipv4.proofs.HeaderSound.{IsFrontInRange, fragment_back, length_five, head_sound}
 use Rattle.narc_ipv4.proofs.HeaderChosen.{at_least, total_least, total_most, total_fits, head_size}
 use Rattle.narc_ipv4.proofs.BeforeRead.{IsBefore}
@@ -35,7 +37,7 @@ unfolding bits
 octet_is v h = bits_same (big_endian 1 v) (v ∷ []) (IsOctets-big_endian 1 v) (h, tt) (bits-big_endian 1 v ∙ sym (append-nil (bits_of_number 8 v)))
 
 -- the octets before the checksum
-abbrev before_octets : RawBefore → List ℕ
+abbrev pub before_octets : RawBefore → List ℕ
 before_octets v =
     big_endian 1 v.0.0.0 ++ big_endian 1 v.0.0.1 ++ big_endian 2 v.0.1
     ++ (big_endian 2 v.1.0.0 ++ big_endian 2 v.1.0.1 ++ (big_endian 1 v.1.1.0 ++ big_endian 1 v.1.1.1))
@@ -78,7 +80,7 @@ fields_with first tos total id fragment ttl protocol sum src dst =
     (first ∷ tos ∷ []) ++ big_endian 2 total ++ big_endian 2 id ++ big_endian 2 fragment ++ (ttl ∷ protocol ∷ []) ++ big_endian 2 sum ++ src ++ dst
 
 -- the octets of the fields, with this checksum and area
-abbrev raw_octets : RawHeader → (sum : ℕ) → (area : List ℕ) → List ℕ
+abbrev pub raw_octets : RawHeader → (sum : ℕ) → (area : List ℕ) → List ℕ
 raw_octets w sum area = before_octets w.0 ++ big_endian 2 sum ++ (w.1.0.0 ++ w.1.0.1 ++ area)
 
 raw_is : (n : ℕ) (w : RawHeader) → IsFrontInRange n w.0 → (sum : ℕ) (area : List ℕ)
@@ -189,18 +191,36 @@ no_flag k h = let e : k / 32768 ≡ 0 = omega (arith, h) in ap (λ n. not (nat_e
 is_first : (n : ℕ) → n / 16 ≡ 4 → IsTrue (is_version tt n)
 is_first n h = ap (λ k. nat_eq k 4) h
 
--- the fields that are written for a header
-chosen_ranges : (n : ℕ) (h : IpHeader) (o : List ℕ) → IsHeader n h o → IsFrontInRange n (raw_header h).0
-chosen_ranges n h o p =
-    let size = p.size in
-    let words = p.options.whole_words in
-    let most = p.options.bound in
-    let fragment = fragment_of h.df h.mf h.offset p.in_range.offset in
-    let first : 4 * ((64 + h.length / 4) % 16) ≡ h.length = omega (arith, size, words, most) in
+-- a header that has octets fits them
+pub header_fits : (n : ℕ) (h : IpHeader) (o : List ℕ) → IsHeader n h o → FitsHeader n h
+header_fits n h o p =
+    let area = p.options in
+    let behind : length p.area ≡ length h.options.spelled.now + length area.rest =
+    ap length area.layout ∙ length-append (flat_map ip_option (ip_options_in h.options.spelled.now)) area.rest ∙ ap (λ l. length l + length area.rest) p.spelled in
     record {
-      first = omega (arith, size, most);
-      version = is_first (64 + h.length / 4) (omega (arith, size, most));
-      least = at_least ((64 + h.length / 4) % 16) 5 (omega (arith, size, most));
+      in_range = p.in_range;
+      protocol = p.protocol;
+      spelled = (p.spelled, area.each);
+      options = omega (arith, behind, p.size);
+      most = omega (arith, p.size, area.bound);
+      whole_words = omega (arith, p.size, area.whole_words);
+      fits = p.fits;
+      present = p.present;
+      small = p.small;
+    }
+
+-- the fields that are written for a header
+pub chosen_ranges : (n : ℕ) (h : IpHeader) → FitsHeader n h → IsFrontInRange n (raw_header h).0
+chosen_ranges n h p =
+    let least = p.options in
+    let words = p.whole_words in
+    let most = p.most in
+    let fragment = fragment_of h.df h.mf h.offset p.in_range.offset in
+    let first : 4 * ((64 + h.length / 4) % 16) ≡ h.length = omega (arith, words, most) in
+    record {
+      first = omega (arith, most);
+      version = is_first (64 + h.length / 4) (omega (arith, most));
+      least = at_least ((64 + h.length / 4) % 16) 5 (omega (arith, least, most));
       tos = omega (arith, p.in_range.tos);
       total = p.small;
       fits = total_fits (header_length_of (64 + h.length / 4), n) h.total (omega (arith, first, p.fits)) p.present;
@@ -215,15 +235,12 @@ with_numbers : IpHeader → (length tos total id : ℕ) → (df mf : Bool) → (
 with_numbers h size tos total id df mf offset ttl protocol =
     record h { length = size; tos = tos; total = total; id = id; df = df; mf = mf; offset = offset; ttl = ttl; protocol = protocol }
 
-seen_again : (n : ℕ) (h : IpHeader) (o : List ℕ) → IsHeader n h o → header_of (raw_header h) ≡ h
+pub seen_again : (n : ℕ) (h : IpHeader) → FitsHeader n h → header_of (raw_header h) ≡ h
 unfolding with_numbers
-seen_again n h o p =
-    let size = p.size in
-    let words = p.options.whole_words in
-    let most = p.options.bound in
+seen_again n h p =
     let f = fragment_of h.df h.mf h.offset p.in_range.offset in
     let word = fragment_word_of h.df h.mf h.offset in
-    let length_is : header_length_of (64 + h.length / 4) ≡ h.length = omega (arith, size, words, most) in
+    let length_is : header_length_of (64 + h.length / 4) ≡ h.length = omega (arith, p.whole_words, p.most) in
     let df = nat_eq (word / 16384 % 2) 1 in
     let mf = nat_eq (word / 8192 % 2) 1 in
     ap (λ k. with_numbers h k (h.tos % 256) (h.total % 65536) (h.id % 65536) df mf (word % 8192) (h.ttl % 256) (h.protocol % 256)) length_is
@@ -264,43 +281,47 @@ before_stands n v r = record {
 }
 
 -- how long the area is
-area_size : (n : ℕ) (h : IpHeader) (o : List ℕ) → (p : IsHeader n h o) → length p.area ≡ area_length_of (64 + h.length / 4)
-area_size n h o p = omega (arith, p.size, p.options.whole_words, p.options.bound)
+pub area_size : (n : ℕ) (h : IpHeader) → FitsHeader n h → h.length - 20 ≡ area_length_of (64 + h.length / 4)
+area_size n h p = omega (arith, p.options, p.whole_words, p.most)
 
--- a header's octets are those of the fields that are written
-written_are : (n : ℕ) (h : IpHeader) (o : List ℕ) → (p : IsHeader n h o) → raw_octets (raw_header h) p.sum p.area ≡ o
-written_are n h o p =
+-- the octets of the fields that are written for a header, with any checksum and area of that length
+pub written_are : (n : ℕ) (h : IpHeader) → FitsHeader n h → (sum : ℕ) (area : List ℕ) → length area ≡ h.length - 20
+    → raw_octets (raw_header h) sum area ≡ ipv4_header (packet_of h) sum (length area) (h.total - h.length) ++ area
+written_are n h p sum area size =
     let w = raw_header h in
-    let r = chosen_ranges n h o p in
-    let seen = fields_seen n w r p.sum (length p.area) (area_size n h o p) in
-    raw_is n w r p.sum p.area
-    ∙ ap (λ l. l ++ p.area) (seen ∙ ap (λ (k : IpHeader). ipv4_header (packet_of k) p.sum (length p.area) (k.total - k.length)) (seen_again n h o p))
-    ∙ sym p.layout
+    let r = chosen_ranges n h p in
+    let seen = fields_seen n w r sum (length area) (size ∙ area_size n h p) in
+    raw_is n w r sum area ∙ ap (λ l. l ++ area) (seen ∙ ap (λ (k : IpHeader). ipv4_header (packet_of k) sum (length area) (k.total - k.length)) (seen_again n h p))
+
+-- the octets of a header are those of the fields that are written, but for checksum and area
+header_are : (n : ℕ) (h : IpHeader) (o : List ℕ) → (p : IsHeader n h o) → raw_octets (raw_header h) p.sum p.area ≡ o
+header_are n h o p = written_are n h (header_fits n h o p) p.sum p.area (omega (arith, p.size)) ∙ sym p.layout
 
 back : (n : ℕ) (h : IpHeader) (o : List ℕ) → IsHeader n h o → IsComposed n h o
 back n h o p =
-    let v = (raw_header h).0 in (
+    let v = (raw_header h).0 in
+    let fits = header_fits n h o p in (
       raw_header h,
       (
         record {
           front = before_octets v ++ big_endian 2 p.sum;
           back = h.src ++ h.dst ++ p.area;
-          joined = sym (written_are n h o p);
-          first = record { front = before_octets v; back = big_endian 2 p.sum; joined = refl; first = before_stands n v (chosen_ranges n h o p); second = length-big_endian 2 p.sum };
+          joined = sym (header_are n h o p);
+          first = record { front = before_octets v; back = big_endian 2 p.sum; joined = refl; first = before_stands n v (chosen_ranges n h fits); second = length-big_endian 2 p.sum };
           second = record {
             front = h.src ++ h.dst;
             back = p.area;
             joined = refl;
             first = record { front = h.src; back = h.dst; joined = refl; first = (p.in_range.src, refl); second = (p.in_range.dst, refl) };
-            second = (area_size n h o p, area_of_ip h.options.spelled.now p.area p.spelled p.options);
+            second = (let size : length p.area ≡ h.length - 20 = omega (arith, p.size) in size ∙ area_size n h fits, area_of_ip h.options.spelled.now p.area p.spelled p.options);
           };
         },
         p.checked,
       ),
-      seen_again n h o p,
+      seen_again n h fits,
     )
 
-before_each : (v : RawBefore) → IsOctets (before_octets v)
+pub before_each : (v : RawBefore) → IsOctets (before_octets v)
 before_each v = (omega arith, (omega arith, (omega arith, (omega arith, (omega arith, (omega arith, (omega arith, (omega arith, (omega arith, (omega arith, tt))))))))))
 
 -- a header is octets
@@ -310,7 +331,7 @@ header_each n h o p =
     let front = IsOctets-append before (big_endian 2 p.sum) (before_each (raw_header h).0) (IsOctets-big_endian 2 p.sum) in
     let addresses = IsOctets-append h.src h.dst p.in_range.src.1 p.in_range.dst.1 in
     let behind = IsOctets-append (h.src ++ h.dst) p.area addresses p.options.octets in
-    subst IsOctets (written_are n h o p) (IsOctets-append (before ++ big_endian 2 p.sum) (h.src ++ h.dst ++ p.area) front behind)
+    subst IsOctets (header_are n h o p) (IsOctets-append (before ++ big_endian 2 p.sum) (h.src ++ h.dst ++ p.area) front behind)
 
 -- and has as many as it says
 pub header_size : (n : ℕ) (h : IpHeader) (o : List ℕ) → IsHeader n h o → length o ≡ h.length
@@ -342,7 +363,7 @@ refused_by_row x each f = (
   λ h. (head_read.refuses (length x) 14 x each f).1 (fault_same 14 (ipv4_rows x) (composed_rows (length x) 14 x) f (sym (rows_are 14 x)) h),
 )
 
-head_valid : (n : ℕ) → n < 2 ^ 64 → ip_head.valid n
+pub head_valid : (n : ℕ) → n < 2 ^ 64 → ip_head.valid n
 unfolding stripped named checked seq
 head_valid n h = h
 

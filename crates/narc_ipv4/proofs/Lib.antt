@@ -7,3 +7,4 @@ pub mod BeforeRead
 pub mod HeaderRead
 pub mod HeaderRows
 pub mod HeaderOctets
+pub mod HeaderWritten

@@ -1,15 +1,15 @@
 -- The octets of a header (RFC 791, section 3.1), and the rows that refuse others.
-use Rattle.std.specs.Prelude.{◌≡◌, ◌↔◌, ℕ, ◌+◌, ◌-◌, ◌/◌, ◌%◌, ◌<◌, ◌≤◌, ◌^◌, Bool, not, ◌||◌, List, [], ◌∷◌, ◌++◌, length, take, flat_map, nat_eq, nat_lt}
+use Rattle.std.specs.Prelude.{◌≡◌, ◌↔◌, ℕ, ◌+◌, ◌-◌, ◌/◌, ◌%◌, ◌<◌, ◌≤◌, ◌^◌, Bool, not, ◌||◌, List, [], ◌∷◌, ◌++◌, length, take, flat_map, replicate, nat_eq, nat_lt}
 use Rattle.narc_bits.specs.Octets.{IsOctets, is_shorter, number_at}
 use Rattle.narc_bits.specs.Bits.{bits}
-use Rattle.narc_bits.specs.InternetSum.{IsGoodSum, is_good_sum}
+use Rattle.narc_bits.specs.InternetSum.{IsGoodSum, is_good_sum, checksum}
 use Rattle.narc_format.specs.declared.fault.Fault.{Fault}
 use Rattle.narc_format.specs.declared.field.TheConstants as field
 use Rattle.narc_format.specs.Meaning.{Meaning}
 use Rattle.narc_format.specs.Rows.{Row, row, differs}
 use Rattle.narc_layout.specs.FirstFault.{IsFirstFault}
 use Rattle.narc_packet.specs.PacketView.{Ipv4View, RawBody}
-use Rattle.narc_packet.specs.Options.{ip_option, ip_options_in, IsIpArea}
+use Rattle.narc_packet.specs.Options.{ip_option, ip_options_in, IsIpArea, AreIpOptions}
 use Rattle.narc_packet.specs.Ipv4.{IsIpv4InRange, ipv4_header}
 use Rattle.narc_packet.specs.Refusal.{header_length, total_length, area_in, options_row, ipv4_rows}
 use Rattle.narc_ipv4.specs.declared.as_header.IpHeader.{IpHeader}
@@ -45,6 +45,36 @@ pub record IsHeader (there : ℕ) (h : IpHeader) (octets : List ℕ) : Type 0 wh
   pub in_range : IsIpv4InRange (packet_of h)
   pub protocol : h.protocol < 256
   pub sum_range : sum < 2 ^ 16
+
+-- The options fit the area that the length leaves behind 20 octets, and the packet the octets that are there.
+pub record FitsHeader (there : ℕ) (h : IpHeader) : Type 0 where
+  pub in_range : IsIpv4InRange (packet_of h)
+  pub protocol : h.protocol < 256
+  pub spelled : AreIpOptions h.options.spelled.now
+  pub options : 20 + length h.options.spelled.now ≤ h.length
+  pub most : h.length ≤ 60
+  pub whole_words : h.length % 4 ≡ 0
+  pub fits : h.length ≤ h.total
+  pub present : h.total ≤ there
+  pub small : h.total < 2 ^ 16
+
+-- the octets that are written, with this checksum: octets 0 fill the area behind the options
+abbrev pub header_with : IpHeader → (sum : ℕ) → List ℕ
+header_with h sum =
+    let area = h.length - 20 in
+    let spelled = h.options.spelled.now in
+    ipv4_header (packet_of h) sum area (h.total - h.length) ++ (spelled ++ replicate (area - length spelled) 0)
+
+abbrev pub canonical_header : IpHeader → List ℕ
+canonical_header h = header_with h (checksum (header_with h 0))
+
+-- exactly what fits can be written
+abbrev pub AdmitsWhatFits : Meaning ℕ IpHeader → Type 0
+AdmitsWhatFits m = (there : ℕ) (h : IpHeader) → there < 2 ^ 64 → m.admits there h ↔ FitsHeader there h
+
+-- what fits is written with its checksum
+abbrev pub IsWrittenWithItsChecksum : Meaning ℕ IpHeader → Type 0
+IsWrittenWithItsChecksum m = (there : ℕ) (h : IpHeader) → FitsHeader there h → m.spelling there h ≡ bits (canonical_header h)
 
 -- exactly the octets of a header stand for it
 abbrev pub IsItsOctets : Meaning ℕ IpHeader → Type 0

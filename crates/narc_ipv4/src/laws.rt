@@ -1,7 +1,7 @@
 //! What is proved of the formats.
 ghost use Rattle.narc_ipv4.specs.Option.{IsItsOption};
 ghost use Rattle.narc_ipv4.specs.Header.{StandsElsewhere};
-ghost use Rattle.narc_ipv4.specs.HeaderOctets.{IsItsOctets, IsRefusedByRow};
+ghost use Rattle.narc_ipv4.specs.HeaderOctets.{IsItsOctets, IsRefusedByRow, AdmitsWhatFits, IsWrittenWithItsChecksum};
 
 use crate::header::IpHead;
 use crate::option::IpOptionFormat;
@@ -37,4 +37,14 @@ pub fn ip_head_is_its_octets()
 /// of the first.
 pub fn ip_head_is_refused_by_row()
     ensures { IsRefusedByRow ⟦<IpHead<'static> as Format<Cursor<'static>>>⟧.meaning }
+{}
+
+/// A header can be written exactly where its options fit it, and its packet the octets that are there.
+pub fn ip_head_admits_what_fits()
+    ensures { AdmitsWhatFits ⟦<IpHead<'static> as Format<Cursor<'static>>>⟧.meaning }
+{}
+
+/// A header is written with its checksum, and with octets 0 behind its options.
+pub fn ip_head_is_written_with_its_checksum()
+    ensures { IsWrittenWithItsChecksum ⟦<IpHead<'static> as Format<Cursor<'static>>>⟧.meaning }
 {}

@@ -14,7 +14,8 @@ pub use header::{
     LengthsIn, OfArea,
 };
 pub use laws::{
-    ip_head_is_its_octets, ip_head_is_refused_by_row, ip_head_is_sound, ip_head_moves,
-    ip_option_format_is_its_octets, ip_option_format_is_sound,
+    ip_head_admits_what_fits, ip_head_is_its_octets, ip_head_is_refused_by_row, ip_head_is_sound,
+    ip_head_is_written_with_its_checksum, ip_head_moves, ip_option_format_is_its_octets,
+    ip_option_format_is_sound,
 };
 pub use option::{AsIpOption, IpOptionFormat};

@@ -19,12 +19,13 @@ use Rattle.narc_layout.proofs.Layouts.{front_octets}
 use Rattle.narc_layout.proofs.SameRows.{row_passes, refused_by, stands_as}
 use Rattle.narc_layout.proofs.ReadLayout.{Spelled, IsTailRead}
 use Rattle.narc_list.specs.Items.{InRow}
+use Rattle.narc_list.specs.Region.{region}
 use Rattle.narc_list.specs.Until.{IsEnd, AreItems, until}
-use Rattle.narc_list.specs.UntilLaws.{zero_spelled}
+use Rattle.narc_list.specs.UntilLaws.{zero_spelled, length-filled}
 use Rattle.narc_packet.specs.Options.{IpOptionView, ip_option, IsListEnd, is_bad_option, bad_option_from, bad_option, ip_options_in, AreIpOptions}
 use Rattle.narc_packet.specs.Refusal.{options_row}
 use Rattle.narc_options.specs.OptionOctets.{raw_view, IsAreaOf, IsItsArea, IsRefusedByRow}
-use Rattle.narc_options.specs.Option.{RawOption, option_fields, option_area}
+use Rattle.narc_options.specs.Option.{RawOption, option_fields, option_area, option_region}
 use Rattle.narc_options.specs.Laws.{option_fields_laws, option_area_laws}
 use Rattle.narc_options.proofs.OptionSound.{option_sound}
 use Rattle.narc_options.proofs.AreaSound.{area_sound}
@@ -277,3 +278,11 @@ few_same start area short = row_passes 0 start (nat_lt 40 (length area)) (option
 
 pub refused_by_row : IsRefusedByRow option_area
 refused_by_row c start area each short = refused_by area_read c start area each (options_row 0 start area ∷ []) (few_same start area short)
+
+-- options can be written in a region that they fit in
+pub region_admits : (n : ℕ) (v : Bor (List ℕ)) → AreIpOptions v.now → length v.now ≤ n → n ≤ 40 → option_region.admits n v
+unfolding region until
+region_admits n v are fits most = record {
+  admitted = record { are = options_are_items v.now are; short = omega (arith, fits, most) };
+  filled = omega (arith, fits, most, length-filled 40 (λ (c : ℕ). c) (λ c. c < 2 ^ 64) option_fields n v.now);
+}
