@@ -4,6 +4,7 @@
 mod as_packet;
 mod decode;
 mod frame;
+mod judge;
 mod refusal;
 #[cfg(test)]
 mod tests;
@@ -15,5 +16,6 @@ pub use frame::{
     ByType, Frame, ShortestFrame, TypeOfHeader, frame_is_its_octets, frame_is_refused_by_row,
     frame_is_sound, octets_are_a_frame_or_refused,
 };
+pub use judge::judge_frame;
 pub use refusal::Refusal;
 pub use unread::unbuilt;
