@@ -1,14 +1,14 @@
 -- The layout of an ARP packet.
-use Rattle.std.proofs.Common.{◌≡◌, ℕ, ◌+◌, ◌^◌, ◌<◌, List, [], ◌∷◌, ◌++◌, sym, ap, ◌∙◌, subst, append_assoc, lit<, lit≤, ◌||◌}
+use Rattle.std.proofs.Common.{◌≡◌, ℕ, ◌+◌, ◌^◌, ◌<◌, List, [], ◌∷◌, ◌++◌, sym, ap, ◌∙◌, subst, append_assoc, lit≤}
 use Rattle.std.proofs.Math.Nat.{mod-eq_of_lt}
-use Rattle.narc_bits.specs.Octets.{is_shorter, number_at, big_endian}
+use Rattle.narc_bits.specs.Octets.{is_shorter, big_endian}
 use Rattle.narc_format.specs.declared.field.TheConstants as field
 use Rattle.narc_scalar.specs.Word.{word}
 use Rattle.narc_compose.specs.Named.{named}
 use Rattle.narc_packet.specs.declared.packet.Arp.{Arp}
-use Rattle.narc_packet.specs.Frame.{arp_octets, ipv4_type}
+use Rattle.narc_packet.specs.Frame.{arp_octets}
 use Rattle.narc_packet.specs.Ranges.{IsMac, IsIp, IsArpInRange}
-use Rattle.narc_format.specs.Rows.{Row, row, differs}
+use Rattle.narc_format.specs.Rows.{Row, row}
 use Rattle.narc_compose.specs.Both.{both}
 use Rattle.narc_eth.proofs.ArpKind.{kind_rows, kind_octets, IsAny, kind_layout}
 use Rattle.narc_eth.specs.ArpPacket.{RawArp, arp_of, raw_arp, arp_kind, arp_addresses, arp_format}
