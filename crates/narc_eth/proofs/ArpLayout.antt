@@ -1,40 +1,21 @@
 -- The layout of an ARP packet.
-use Rattle.std.proofs.Common.{◌≡◌, ℕ, ◌+◌, ◌^◌, ◌<◌, List, [], ◌∷◌, ◌++◌, sym, ap, ◌∙◌, subst, append_assoc, lit<, lit≤, ◌||◌}
+use Rattle.std.proofs.Common.{◌≡◌, ℕ, ◌+◌, ◌^◌, ◌<◌, List, [], ◌∷◌, ◌++◌, sym, ap, ◌∙◌, subst, append_assoc, lit≤}
 use Rattle.std.proofs.Math.Nat.{mod-eq_of_lt}
-use Rattle.narc_bits.specs.Octets.{is_shorter, number_at, big_endian}
+use Rattle.narc_bits.specs.Octets.{is_shorter, big_endian}
 use Rattle.narc_format.specs.declared.field.TheConstants as field
 use Rattle.narc_scalar.specs.Word.{word}
 use Rattle.narc_compose.specs.Named.{named}
 use Rattle.narc_packet.specs.declared.packet.Arp.{Arp}
-use Rattle.narc_packet.specs.Frame.{arp_octets, ipv4_type}
+use Rattle.narc_packet.specs.Frame.{arp_octets}
 use Rattle.narc_packet.specs.Ranges.{IsMac, IsIp, IsArpInRange}
-use Rattle.narc_format.specs.Rows.{Row, row, differs}
+use Rattle.narc_format.specs.Rows.{Row, row}
 use Rattle.narc_compose.specs.Both.{both}
+use Rattle.narc_eth.proofs.ArpKind.{kind_rows, kind_octets, IsAny, kind_layout}
 use Rattle.narc_eth.specs.ArpPacket.{RawArp, arp_of, raw_arp, arp_kind, arp_addresses, arp_format}
 use Rattle.narc_layout.proofs.Layouts.{IsLayout}
 use Rattle.narc_layout.proofs.BothLayout.{both_layout}
-use Rattle.narc_layout.proofs.ScalarLayouts.{octets_layout, word_layout, constant_layout}
+use Rattle.narc_layout.proofs.ScalarLayouts.{octets_layout, word_layout}
 use Rattle.narc_layout.proofs.Views.{seen_layout}
-
-abbrev pub kind_rows : (start skip : ℕ) → List ℕ → List Row
-kind_rows start skip x =
-    row field.ARP_HARDWARE (start + skip) (is_shorter x (skip + 2) || differs (number_at x skip 2) 1)
-    ∷ row field.ARP_PROTOCOL (start + (skip + 2)) (is_shorter x (skip + 2 + 2) || differs (number_at x (skip + 2) 2) ipv4_type)
-    ∷ row field.ARP_HARDWARE_SIZE (start + (skip + 4)) (is_shorter x (skip + 4 + 1) || differs (number_at x (skip + 4) 1) 6)
-    ∷ row field.ARP_PROTOCOL_SIZE (start + (skip + 4 + 1)) (is_shorter x (skip + 4 + 1 + 1) || differs (number_at x (skip + 4 + 1) 1) 4)
-    ∷ []
-
-abbrev pub kind_octets : (Unit {0} × Unit {0}) × (Unit {0} × Unit {0}) → List ℕ
-kind_octets v = big_endian 2 1 ++ big_endian 2 ipv4_type ++ (big_endian 1 6 ++ big_endian 1 4)
-
-abbrev pub IsAny : (Unit {0} × Unit {0}) × (Unit {0} × Unit {0}) → Type 0
-IsAny v = (Unit {0} × Unit {0}) × (Unit {0} × Unit {0})
-
-pub kind_layout : IsLayout arp_kind IsAny kind_octets 6 kind_rows
-kind_layout =
-    both_layout
-    (both_layout (constant_layout 2 1 (lit≤ tt) (lit≤ tt) (lit< tt) field.ARP_HARDWARE (lit≤ tt) (lit≤ tt)) (constant_layout 2 ipv4_type (lit≤ tt) (lit≤ tt) (lit< tt) field.ARP_PROTOCOL (lit≤ tt) (lit≤ tt)))
-    (both_layout (constant_layout 1 6 (lit≤ tt) (lit≤ tt) (lit< tt) field.ARP_HARDWARE_SIZE (lit≤ tt) (lit≤ tt)) (constant_layout 1 4 (lit≤ tt) (lit≤ tt) (lit< tt) field.ARP_PROTOCOL_SIZE (lit≤ tt) (lit≤ tt)))
 
 abbrev pub address_rows : (start skip : ℕ) → List ℕ → List Row
 address_rows start skip x =

@@ -1,2 +1,3 @@
 pub mod HeaderLayout
+pub mod ArpKind
 pub mod ArpLayout

@@ -1,5 +1,5 @@
 -- The layouts of single fields.
-use Rattle.std.proofs.Common.{◌≡◌, ℕ, ◌+◌, ◌-◌, ◌*◌, ◌%◌, ◌^◌, ◌<◌, ◌≤◌, Bool, true, false, not, ◌||◌, List, [], ◌∷◌, ◌++◌, length, take, drop, nat_eq, refl, sym, ap, ◌∙◌, arith, length-take, take-append-drop}
+use Rattle.std.proofs.Common.{◌≡◌, ℕ, ◌+◌, ◌-◌, ◌*◌, ◌^◌, ◌<◌, ◌≤◌, Bool, true, false, not, ◌||◌, List, [], ◌∷◌, ◌++◌, length, take, drop, nat_eq, refl, sym, ap, ◌∙◌, arith, length-take, take-append-drop}
 use Rattle.std.proofs.lemmas.Bool.{eqb-true, eq-eqb, not-false, or_parts, or_from, true_from_ne_false, true≢false}
 use Rattle.std.proofs.lemmas.List.{take_at}
 use Rattle.narc_bits.specs.Octets.{IsOctets, big_endian, number_of, number_at, is_shorter}
@@ -21,7 +21,7 @@ use Rattle.narc_layout.proofs.Layouts.{IsLayout}
 use Rattle.narc_layout.proofs.ContextLayouts.{IsShaped, plain_layout}
 use Rattle.narc_layout.proofs.FieldLayout.{IsUnnamed, named_layout}
 use Rattle.narc_layout.proofs.TestLayout.{shape_word, unnamed_word}
-use Rattle.narc_layout.proofs.Fronts.{few, enough, long, cut, is_number, below}
+use Rattle.narc_layout.proofs.Fronts.{few, enough, long, cut, is_number}
 
 -- a number of k octets
 module _ (k : ℕ) (some : 1 ≤ k) (most : k ≤ 8) where

@@ -1,5 +1,5 @@
 -- The layouts of numbers, and of numbers that pass a test in a context.
-use Rattle.std.proofs.Common.{◌≡◌, ℕ, ◌+◌, ◌-◌, ◌*◌, ◌%◌, ◌^◌, ◌<◌, ◌≤◌, ◌↔◌, Bool, true, false, not, ◌||◌, List, [], ◌∷◌, ◌++◌, length, take, drop, nat_eq, IsTrue, refl, sym, ap, ◌∙◌, subst, arith, take-append-drop, inl, inr}
+use Rattle.std.proofs.Common.{◌≡◌, ℕ, ◌+◌, ◌-◌, ◌*◌, ◌%◌, ◌^◌, ◌<◌, ◌≤◌, ◌↔◌, Bool, true, false, not, ◌||◌, List, ◌++◌, take, drop, nat_eq, IsTrue, refl, sym, ap, ◌∙◌, subst, arith, take-append-drop, inl, inr}
 use Rattle.std.proofs.lemmas.List.{take_at}
 use Rattle.narc_bits.specs.Octets.{IsOctets, big_endian, number_of, number_at, is_shorter}
 use Rattle.narc_bits.specs.Bits.{bits}
@@ -15,7 +15,7 @@ use Rattle.narc_scalar.specs.Tested.{tested}
 use Rattle.narc_scalar.specs.TestedLaws.{tested_laws}
 use Rattle.narc_layout.proofs.NetworkOrder.{number_of-big_endian}
 use Rattle.narc_layout.proofs.Fronts.{few, long, is_number, below}
-use Rattle.narc_layout.proofs.Layouts.{Begins, front_octets}
+use Rattle.narc_layout.proofs.Layouts.{front_octets}
 use Rattle.narc_layout.proofs.ContextLayouts.{IsShaped}
 use Rattle.narc_layout.proofs.FieldLayout.{IsUnnamed}
 

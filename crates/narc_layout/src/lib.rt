@@ -13,5 +13,7 @@
 //!   rows; a tail by `IsTailRead`. There is a lemma for each rule: `seq_read`, `gap_read`, `named_read`, `stripped_read`,
 //!   `tested_read`, `region_read`, `checked_read`, `measured_read`, `all_octets_read`, `padding_read`, and those of tails.
 //!
-//! No code runs here.
+//! `laws` has what rules such as `Gap` and `Checked` ask of their part. No code runs here.
 #![tactic(auto)]
+
+pub mod laws;

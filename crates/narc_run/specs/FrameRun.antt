@@ -1,5 +1,7 @@
 -- How the job `frame` ends for a source and a sink.
 use Rattle.std.specs.Prelude.{◌≡◌, ℕ, ◌+◌, ◌*◌, ◌≤◌, ◌⊎◌, List, length, Option}
+use Rattle.narc_bits.specs.declared.limits.TheConstants.{MAX_FRAME}
+use Rattle.narc_world.specs.declared.room.TheConstants.{FRAME_BUFFER}
 use Rattle.narc_world.specs.Outside.{TakesFront, IsEmptyWhereTold, Appends}
 use Rattle.narc_run.specs.Job.{Frame}
 use Rattle.narc_run.specs.Findings.{Found}
@@ -21,7 +23,7 @@ module _ (left_before left_after held_before held_after : Option (List ℕ)) (st
   pub record SourceFails : Type 0 where
     pub octets : List ℕ
     pub took : TakesFront octets left_before left_after
-    pub fits : length octets ≤ 262145
+    pub fits : length octets ≤ FRAME_BUFFER
     pub told : status ≡ 5
     pub place : at ≡ length octets
     pub unwritten : held_after ≡ held_before
@@ -31,9 +33,9 @@ module _ (left_before left_after held_before held_after : Option (List ℕ)) (st
   pub record Overflows : Type 0 where
     pub octets : List ℕ
     pub took : TakesFront octets left_before left_after
-    pub long : length octets ≡ 262145
+    pub long : length octets ≡ FRAME_BUFFER
     pub told : status ≡ 3
-    pub place : at ≡ 262144
+    pub place : at ≡ MAX_FRAME
     pub unwritten : held_after ≡ held_before
     pub steps : steps_after ≡ steps_before
 
@@ -42,7 +44,7 @@ module _ (left_before left_after held_before held_after : Option (List ℕ)) (st
     pub octets : List ℕ
     pub took : TakesFront octets left_before left_after
     pub ended : IsEmptyWhereTold left_after
-    pub fits : length octets ≤ 262144
+    pub fits : length octets ≤ MAX_FRAME
     pub answered : IsAnswered octets status at held_before held_after ⊎ ((status ≡ 6) × (at ≡ 0) × IsCut octets held_before held_after)
     pub steps : steps_after ≤ steps_before + (16 * length octets + 1)
 

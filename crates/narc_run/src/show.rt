@@ -2,11 +2,12 @@
 ghost use Rattle.std.specs.Prelude.{◌≡◌, ◌+◌, ◌*◌, ◌≤◌, ◌++◌, ◌^◌, [], length, IfOk, OnErr};
 ghost use Rattle.narc_world.specs.Outside.{Appends, Rose};
 ghost use Rattle.narc_text.specs.Printing.{IsPrinted};
+ghost use Rattle.narc_run.specs.Job.{Show};
 ghost use Rattle.narc_run.specs.Output.{header_line};
 ghost use Rattle.narc_run.specs.Run.{WroteFront};
 ghost use Rattle.narc_run.specs.Tallies.{tally_line};
 ghost use Rattle.narc_run.specs.Verdict.{end_verdict};
-ghost use Rattle.narc_run.specs.ShowRun.{EndsShow, IsShown, ShowRun};
+ghost use Rattle.narc_run.specs.CaptureRun.{CaptureRun, EndsCapture, IsShown};
 
 use crate::entry::{answer_record, print_record};
 use crate::outcome::Outcome;
@@ -78,17 +79,6 @@ fn put_counts(tally: &Tally, page: &mut Page)
     page.put(b"\n");
 }
 
-/// How a run ends with its capture.
-fn outcome_of(end: End) -> Outcome
-    ensures status { result.status ≡ (end_verdict end).status }
-    ensures place { result.at ≡ (end_verdict end).at }
-{
-    match end {
-        End::Clean => Outcome::done(),
-        End::Torn(at) | End::Bad(at) => Outcome::malformed(at),
-    }
-}
-
 /// Prints the last line, and pushes all that is on the page.
 fn end_capture<K: Sink>(
     end: End,
@@ -96,14 +86,14 @@ fn end_capture<K: Sink>(
     page: &mut Page,
     sink: &mut K,
 ) -> Result<Outcome, Failed>
-    ensures printed { IsShown result (page.old ++ tally_line tally.now end) (end_verdict end) (K.held sink.old) (K.held sink.new) }
+    ensures printed { IsShown result (page.old ++ tally_line tally.now end) (end_verdict 0 end) (K.held sink.old) (K.held sink.new) }
     ensures later { K.faults sink.old ≤ K.faults sink.new }
     ensures cause { OnErr result (Rose (K.faults sink.old) (K.faults sink.new)) }
 {
     page.make_room(LINE, sink)?;
     put_end(end, tally, page);
     page.flush(sink)?;
-    Ok(outcome_of(end))
+    Ok(Outcome::of_capture(0, end))
 }
 
 /// Pushes all that is on the page, and ends with this outcome.
@@ -136,7 +126,7 @@ fn show<S: Source, K: Sink, L: Ledger>(
     steps: &mut Steps<L>,
 ) -> Result<Outcome, Failed>
     requires { LONGEST_RECORD ≤ length input.items }
-    ensures run { ShowRun (S.left source.old) (S.left source.new) (K.held sink.old) (K.held sink.new) steps.old steps.new result }
+    ensures run { CaptureRun Show (S.left source.old) (S.left source.new) (K.held sink.old) (K.held sink.new) steps.old steps.new result }
     ensures source_later { S.faults source.old ≤ S.faults source.new }
     ensures sink_later { K.faults sink.old ≤ K.faults sink.new }
     ensures source_cause { IfOk result (λ outcome. outcome.status ≡ 5 → Rose (S.faults source.old) (S.faults source.new)) }
@@ -180,7 +170,7 @@ pub(crate) fn run_show<S: Source, K: Sink, L: Ledger>(
     steps: &mut Steps<L>,
 ) -> Outcome
     requires { LONGEST_RECORD ≤ length input.items }
-    ensures run { EndsShow (S.left source.old) (S.left source.new) (K.held sink.old) (K.held sink.new) steps.old steps.new result }
+    ensures run { EndsCapture Show (S.left source.old) (S.left source.new) (K.held sink.old) (K.held sink.new) steps.old steps.new result }
     ensures status { result.status ≤ 7 }
     ensures source_later { S.faults source.old ≤ S.faults source.new }
     ensures sink_later { K.faults sink.old ≤ K.faults sink.new }

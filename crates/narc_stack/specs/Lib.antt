@@ -6,3 +6,4 @@ pub mod RawFrame
 pub mod WholeFrame
 pub mod Admitted
 pub mod Written
+pub mod Judgement

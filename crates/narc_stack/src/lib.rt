@@ -8,6 +8,7 @@ mod decode;
 mod frame;
 mod ipv4;
 mod ipv4_part;
+mod judge;
 mod refusal;
 
 pub use as_ipv4::AsIpv4;
@@ -20,4 +21,5 @@ pub use frame::{
 };
 pub use ipv4::{ContentOf, Ipv4Format, OctetsThere, ZerosBehind};
 pub use ipv4_part::Ipv4Part;
+pub use judge::judge_frame;
 pub use refusal::Refusal;

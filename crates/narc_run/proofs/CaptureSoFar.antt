@@ -1,0 +1,312 @@
+-- How a job ends that reads a capture, by what was read of it and found so far.
+use Rattle.std.proofs.Common.{◌≡◌, ℕ, ◌+◌, ◌<◌, ◌≤◌, ◌⊎◌, inl, inr, false, List, [], ◌∷◌, ◌++◌, length, take, drop, Option, Some, None, Result, Ok, Err, refl, sym, ap, ◌∙◌, subst, append_assoc, append-nil, zero-add, arith, length-append, length-take}
+use Rattle.std.specs.Prelude.{IsTrue, sum_by}
+use Rattle.std.proofs.lemmas.List.{length-take-le, take-append-drop}
+use Rattle.narc_bits.specs.declared.limits.TheConstants.{MAX_FRAME}
+use Rattle.narc_world.specs.declared.error.Failed.{Failed}
+use Rattle.narc_world.specs.Outside.{TakesFront, IsEmptyWhereTold, Appends}
+use Rattle.narc_world.proofs.Fronts.{TakesFront-append}
+use Rattle.narc_pcap.specs.declared.limit.TheConstants.{CAPTURE_LIMIT}
+use Rattle.narc_pcap.specs.declared.header.Header.{Header}
+use Rattle.narc_pcap.specs.declared.record.Record.{Record}
+use Rattle.narc_pcap.specs.declared.record.End.{End}
+use Rattle.narc_pcap.specs.declared.record.End.TheVariants.{Clean, Torn, Bad}
+use Rattle.narc_pcap.specs.Capture.{front, capture, CaptureView, headed, no_header, is_bad}
+use Rattle.narc_pcap.specs.Reading.{Reading, Holds, Exceeds, IsFresh, IsShort, taken}
+use Rattle.narc_pcap.specs.Reading as reading
+use Rattle.narc_pcap.proofs.Cuts.{whole_of}
+use Rattle.narc_run.specs.declared.outcome.Outcome.{Outcome}
+use Rattle.narc_run.specs.Job.{CaptureJob, Capture, Show, Check}
+use Rattle.narc_run.specs.Findings.{Told, Findings, AreTold, frames, frame_cost}
+use Rattle.narc_run.specs.Output.{capture_body, capture_end, body, output}
+use Rattle.narc_run.specs.Verdict.{Verdict, verdict, verdict_of, end_verdict, records_status}
+use Rattle.narc_run.specs.Run.{WroteFront}
+use Rattle.narc_run.specs.CaptureRun as run
+use Rattle.narc_run.specs.CaptureRun.{CaptureRun, Judged, Broken, Overrun, Stopped, StoppedLast, StoppedBehind}
+use Rattle.narc_run.proofs.FrameAnswers.{no_findings}
+use Rattle.narc_run.proofs.Walks.{Walks, Walks-start, Walks-end, ReadSoFar, entries_of, cost}
+
+abbrev pub found_of : List Told → Findings
+found_of told = record { frame = no_findings.frame; records = told }
+
+-- ---- a capture that is its header, these records and this end
+
+module _ (octets : List ℕ) (h : Header) (told : List Told) (end : End)
+    (is : capture octets ≡ headed h (record { entries = entries_of told; end = end })) where
+  pub are_told : AreTold (entries_of told) told → AreTold (capture octets).entries told
+  are_told right = subst (λ l. AreTold l told) (sym (ap (λ (v : CaptureView). v.entries) is)) right
+
+  pub body_is : (j : CaptureJob) → body (Capture j) octets (found_of told) ≡ capture_body j (Some h) told
+  body_is j = ap (λ (v : CaptureView). capture_body j v.header told) is
+
+  pub output_is : (j : CaptureJob) → output (Capture j) octets (found_of told) ≡ capture_body j (Some h) told ++ capture_end j told end
+  output_is j = ap (λ (v : CaptureView). capture_body j v.header told ++ capture_end j told v.end) is
+
+  pub verdict_is : (j : CaptureJob) → verdict (Capture j) octets (found_of told) ≡ end_verdict (records_status j told) end
+  verdict_is j = ap (λ (v : CaptureView). end_verdict (records_status j told) v.end) is
+
+  pub bad_is : is_bad (capture octets).end ≡ is_bad end
+  bad_is = ap (λ (v : CaptureView). is_bad v.end) is
+
+  pub cost_is : (j : CaptureJob) → sum_by frame_cost (frames (Capture j) octets) ≡ cost (entries_of told)
+  cost_is j = ap (λ (v : CaptureView). cost v.entries) is
+
+-- what is short has an end that is not bad
+record ShortEnd (r : Result Record End) : Type 0 where
+  end : End
+  is : r ≡ Err end
+  good : is_bad end ≡ false
+
+short_end : (r : Result Record End) → IsShort r → ShortEnd r
+short_end (Ok head) h = absurd h
+short_end (Err Clean) h = record { end = Clean; is = refl; good = refl }
+short_end (Err (Torn at)) h = record { end = Torn at; is = refl; good = refl }
+short_end (Err (Bad at)) h = absurd h
+
+-- the capture ended here, or shows a bad place
+settled_at : (z : Option (List ℕ)) (e f : End) → is_bad e ≡ is_bad f → IsEmptyWhereTold z ⊎ IsTrue (is_bad f) → IsEmptyWhereTold z ⊎ IsTrue (is_bad e)
+settled_at z e f same (inl ended) = inl ended
+settled_at z e f same (inr bad) = inr (same ∙ bad)
+
+-- ---- octets behind those that were read so far
+
+module _ (j : CaptureJob) (reader now : Reading) (x y z a d : Option (List ℕ)) (s0 s1 : ℕ) (so_far : ReadSoFar reader x y s0 s1) where
+  abbrev octets : List ℕ
+  octets = so_far.past ++ now.hand
+
+  abbrev told : List Told
+  told = so_far.told
+
+  abbrev lines : List ℕ
+  lines = capture_body j (Some reader.header) told
+
+  took : Holds reader now y z → TakesFront octets x z
+  took holds =
+      let joined : (so_far.past ++ reader.hand) ++ holds.pulled ≡ octets = append_assoc so_far.past reader.hand holds.pulled ∙ ap (λ l. so_far.past ++ l) (sym holds.hand) in
+      subst (λ l. TakesFront l x z) joined (TakesFront-append (so_far.past ++ reader.hand) holds.pulled x y z so_far.took holds.took)
+
+  took_past : (e : Exceeds reader now y z) → TakesFront (octets ++ e.octet ∷ []) x z
+  took_past e =
+      let joined : (so_far.past ++ reader.hand) ++ (e.pulled ++ e.octet ∷ []) ≡ octets ++ e.octet ∷ [] =
+      append_assoc so_far.past reader.hand (e.pulled ++ e.octet ∷ []) ∙ ap (λ l. so_far.past ++ l) (sym (append_assoc reader.hand e.pulled (e.octet ∷ [])))
+      ∙ sym (append_assoc so_far.past (reader.hand ++ e.pulled) (e.octet ∷ [])) ∙ ap (λ l. (so_far.past ++ l) ++ e.octet ∷ []) (sym e.hand) in
+      subst (λ l. TakesFront l x z) joined (TakesFront-append (so_far.past ++ reader.hand) (e.pulled ++ e.octet ∷ []) x y z so_far.took e.took)
+
+  size : now.place ≡ reader.place → length octets ≡ taken now
+  size place = omega (arith, length-append so_far.past now.hand, so_far.place, place)
+
+  right : AreTold (entries_of told) told
+  right = record { same = refl; right = (so_far.walks).right }
+
+  ends_with : (end : End) → front reader.header.big reader.place now.hand ≡ Err end
+      → capture octets ≡ headed reader.header (record { entries = entries_of told; end = end })
+  ends_with end is = Walks-end reader.header so_far.past now.hand told end so_far.walks (ap (λ n. front reader.header.big n now.hand) (sym so_far.place) ∙ is)
+
+  takes : (end : End) → Holds reader now y z → taken now ≤ CAPTURE_LIMIT → front reader.header.big reader.place now.hand ≡ Err end → run.Takes j x z a d s0 s1 octets
+  takes end holds reach is = record {
+    took = took holds;
+    fits = omega (arith, size holds.place, reach);
+    steps = omega (arith, so_far.cheap, cost_is octets reader.header told end (ends_with end is) j);
+  }
+
+  module _ (end : End) (holds : Holds reader now y z) (is : front reader.header.big reader.place now.hand ≡ Err end) (reach : taken now ≤ CAPTURE_LIMIT)
+      (settled : IsEmptyWhereTold z ⊎ IsTrue (is_bad end)) where
+    -- the capture ended, or a bad place was shown
+    pub judged : (o : Outcome) → verdict_of o.status o.at ≡ end_verdict (records_status j told) end → Appends (lines ++ capture_end j told end) a d → CaptureRun j x z a d s0 s1 (Ok o)
+    judged o v wrote =
+        let whole = ends_with end is in
+        Judged o (record {
+          octets = octets;
+          takes = takes end holds reach is;
+          settled = settled_at z (capture octets).end end (bad_is octets reader.header told end whole) settled;
+          found = record {
+            found = found_of told;
+            are = are_told octets reader.header told end whole right;
+            holds = (v ∙ sym (verdict_is octets reader.header told end whole j), subst (λ l. Appends l a d) (sym (output_is octets reader.header told end whole j)) wrote);
+          };
+        })
+
+    -- the sink failed at the end
+    pub stopped_last : (f : Failed) → WroteFront (lines ++ capture_end j told end) a d → CaptureRun j x z a d s0 s1 (Err f)
+    stopped_last f wrote =
+        let whole = ends_with end is in
+        StoppedLast f (record {
+          octets = octets;
+          takes = takes end holds reach is;
+          settled = settled_at z (capture octets).end end (bad_is octets reader.header told end whole) settled;
+          found = record {
+            found = found_of told;
+            are = are_told octets reader.header told end whole right;
+            holds = subst (λ l. WroteFront l a d) (sym (output_is octets reader.header told end whole j)) wrote;
+          };
+        })
+
+  module _ (holds : Holds reader now y z) (short : IsShort (front reader.header.big reader.place now.hand)) (reach : taken now ≤ CAPTURE_LIMIT) where
+    -- the source failed
+    pub broken : (o : Outcome) → verdict_of o.status o.at ≡ verdict_of 5 (taken now) → Appends lines a d → CaptureRun j x z a d s0 s1 (Ok o)
+    broken o v wrote =
+        let e = short_end (front reader.header.big reader.place now.hand) short in
+        let whole = ends_with e.end e.is in
+        Broken o (record {
+          octets = octets;
+          takes = takes e.end holds reach e.is;
+          told = ap (λ (v : Verdict). v.status) v;
+          place = ap (λ (v : Verdict). v.at) v ∙ sym (size holds.place);
+          found = record {
+            found = found_of told;
+            are = are_told octets reader.header told e.end whole right;
+            holds = subst (λ l. Appends l a d) (sym (body_is octets reader.header told e.end whole j)) wrote;
+          };
+        })
+
+    -- the sink failed behind it
+    pub stopped_short : (f : Failed) → WroteFront lines a d → CaptureRun j x z a d s0 s1 (Err f)
+    stopped_short f wrote =
+        let e = short_end (front reader.header.big reader.place now.hand) short in
+        let whole = ends_with e.end e.is in
+        Stopped f (record {
+          octets = octets;
+          takes = takes e.end holds reach e.is;
+          found = record {
+            found = found_of told;
+            are = are_told octets reader.header told e.end whole right;
+            holds = subst (λ l. WroteFront l a d) (sym (body_is octets reader.header told e.end whole j)) wrote;
+          };
+        })
+
+  module _ (holds : Exceeds reader now y z) (short : IsShort (front reader.header.big reader.place now.hand)) where
+    -- the limit was passed
+    pub overrun : (o : Outcome) → verdict_of o.status o.at ≡ verdict_of 7 CAPTURE_LIMIT → Appends lines a d → CaptureRun j x z a d s0 s1 (Ok o)
+    overrun o v wrote =
+        let e = short_end (front reader.header.big reader.place now.hand) short in
+        let whole = ends_with e.end e.is in
+        Overrun o (record {
+          octets = octets;
+          octet = holds.octet;
+          took = took_past holds;
+          long = size holds.place ∙ holds.reached;
+          steps = omega (arith, so_far.cheap, cost_is octets reader.header told e.end whole j);
+          told = ap (λ (v : Verdict). v.status) v;
+          place = ap (λ (v : Verdict). v.at) v;
+          found = record {
+            found = found_of told;
+            are = are_told octets reader.header told e.end whole right;
+            holds = (
+              bad_is octets reader.header told e.end whole ∙ e.good,
+              subst (λ l. Appends l a d) (sym (body_is octets reader.header told e.end whole j)) wrote,
+            );
+          };
+        })
+
+    -- the sink failed behind it
+    pub stopped_behind : (f : Failed) → WroteFront lines a d → CaptureRun j x z a d s0 s1 (Err f)
+    stopped_behind f wrote =
+        let e = short_end (front reader.header.big reader.place now.hand) short in
+        let whole = ends_with e.end e.is in
+        StoppedBehind f (record {
+          octets = octets;
+          octet = holds.octet;
+          took = took_past holds;
+          long = size holds.place ∙ holds.reached;
+          steps = omega (arith, so_far.cheap, cost_is octets reader.header told e.end whole j);
+          found = record {
+            found = found_of told;
+            are = are_told octets reader.header told e.end whole right;
+            holds = subst (λ l. WroteFront l a d) (sym (body_is octets reader.header told e.end whole j)) wrote;
+          };
+        })
+
+-- ---- the beginning
+
+-- the header was read
+abbrev pub read_start : (reader now : Reading) (x y : Option (List ℕ)) (s : ℕ) (h : Header) → reading.Starts reader now x y h → ReadSoFar now x y s s
+read_start reader now x y s h starts =
+    let size : length (take 24 starts.pulled) ≡ 24 = length-take-le 24 starts.pulled starts.enough in
+    record {
+      past = take 24 starts.pulled;
+      told = [];
+      took = subst (λ l. TakesFront l x y) (sym (take-append-drop 24 starts.pulled) ∙ ap (λ l. take 24 starts.pulled ++ l) (sym starts.hand)) starts.took;
+      walks = subst (λ (h : Header). Walks h (take 24 starts.pulled) []) (sym starts.header) (Walks-start starts.pulled h starts.enough starts.is);
+      place = starts.place ∙ sym size;
+      octets = starts.octets;
+      few = omega arith;
+      cheap = omega arith;
+    }
+
+-- a frame is no longer than the decoder takes
+pub frame_fits : (reader now : Reading) (y z : Option (List ℕ)) (head : Record) → reading.Passes reader now y z head → length now.frame ≤ MAX_FRAME
+frame_fits reader now y z head passes =
+    let whole = whole_of reader.header.big reader.place (reader.hand ++ passes.pulled) head passes.is in
+    omega (arith, whole.size, ap length passes.frame, length-take head.captured (drop 16 (reader.hand ++ passes.pulled)))
+
+-- nothing is written of what has no header
+no_body : (j : CaptureJob) → capture_body j None [] ≡ []
+no_body Show = refl
+no_body Check = refl
+
+module _ (j : CaptureJob) (fresh now : Reading) (x z a d : Option (List ℕ)) (s : ℕ) (is_fresh : IsFresh fresh) (holds : Holds fresh now x z) (reach : taken now ≤ CAPTURE_LIMIT)
+    (end : End) (is : capture now.hand ≡ no_header end) where
+  taken_all : holds.pulled ≡ now.hand
+  taken_all = sym (holds.hand ∙ ap (λ l. l ++ holds.pulled) is_fresh.0)
+
+  takes_all : run.Takes j x z a d s s now.hand
+  takes_all = record {
+    took = subst (λ l. TakesFront l x z) taken_all holds.took;
+    fits = omega (arith, reach);
+    steps = omega arith;
+  }
+
+  none_told : AreTold (capture now.hand).entries []
+  none_told = subst (λ l. AreTold l []) (sym (ap (λ (v : CaptureView). v.entries) is)) (record { same = refl; right = tt })
+
+  none_output : output (Capture j) now.hand (found_of []) ≡ capture_end j [] end
+  none_output =
+      ap (λ (v : CaptureView). capture_body j v.header [] ++ capture_end j [] v.end) is ∙ ap (λ l. l ++ capture_end j [] end) (no_body j)
+
+  none_body : body (Capture j) now.hand (found_of []) ≡ []
+  none_body = ap (λ (v : CaptureView). capture_body j v.header []) is ∙ no_body j
+
+  module _ (settled : IsEmptyWhereTold z ⊎ IsTrue (is_bad end)) where
+    settles : IsEmptyWhereTold z ⊎ IsTrue (is_bad (capture now.hand).end)
+    settles = settled_at z (capture now.hand).end end (ap (λ (v : CaptureView). is_bad v.end) is) settled
+
+    -- the capture has no header
+    pub headless_judged : (o : Outcome) → verdict_of o.status o.at ≡ end_verdict (records_status j []) end → Appends (capture_end j [] end) a d → CaptureRun j x z a d s s (Ok o)
+    headless_judged o v wrote = Judged o (record {
+      octets = now.hand;
+      takes = takes_all;
+      settled = settles;
+      found = record {
+        found = found_of [];
+        are = none_told;
+        holds = (v ∙ sym (ap (λ (v : CaptureView). end_verdict (records_status j []) v.end) is), subst (λ l. Appends l a d) (sym none_output) wrote);
+      };
+    })
+
+    pub headless_stopped : (f : Failed) → WroteFront (capture_end j [] end) a d → CaptureRun j x z a d s s (Err f)
+    headless_stopped f wrote = StoppedLast f (record {
+      octets = now.hand;
+      takes = takes_all;
+      settled = settles;
+      found = record {
+        found = found_of [];
+        are = none_told;
+        holds = subst (λ l. WroteFront l a d) (sym none_output) wrote;
+      };
+    })
+
+  -- the source failed before the header came
+  pub headless_broken : (o : Outcome) → verdict_of o.status o.at ≡ verdict_of 5 (taken now) → Appends [] a d → CaptureRun j x z a d s s (Ok o)
+  headless_broken o v wrote =
+      let first : now.place ≡ 0 = holds.place ∙ is_fresh.1 in
+      Broken o (record {
+        octets = now.hand;
+        takes = takes_all;
+        told = ap (λ (v : Verdict). v.status) v;
+        place = ap (λ (v : Verdict). v.at) v ∙ ap (λ n. n + length now.hand) first ∙ zero-add (length now.hand);
+        found = record {
+          found = found_of [];
+          are = none_told;
+          holds = subst (λ l. Appends l a d) (sym none_body) wrote;
+        };
+      })

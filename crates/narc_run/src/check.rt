@@ -1,0 +1,149 @@
+//! The job `check`: how many packets and refusals a capture has.
+ghost use Rattle.std.specs.Prelude.{◌≡◌, ◌+◌, ◌*◌, ◌-◌, ◌≤◌, ◌++◌, ◌∷◌, [], codes, decimal, length, IfOk, OnErr};
+ghost use Rattle.narc_world.specs.Outside.{CountsFaults, Rose};
+ghost use Rattle.narc_format.specs.declared.field.TheConstants.{COUNT};
+ghost use Rattle.narc_run.specs.Job.{Check};
+ghost use Rattle.narc_run.specs.Output.{check_end, refused_line};
+ghost use Rattle.narc_run.specs.Verdict.{end_verdict};
+ghost use Rattle.narc_run.specs.Counting.{counts_lines, counts_status, refusal_lines};
+ghost use Rattle.narc_run.specs.CaptureRun.{CaptureRun, EndsCapture, IsShown};
+
+use crate::counts::{Counts, NUMBERS};
+use crate::entry::judge_record;
+use crate::outcome::Outcome;
+use narc_bits::Steps;
+use narc_format::{Field, field};
+use narc_pcap::{End, LONGEST_RECORD, Next, Reader, Started};
+use narc_text::{Page, put_decimal};
+use narc_world::{Failed, Sink, Source};
+use std::sync::ledger::Ledger;
+
+/// A word with a space behind it, and a number.
+fn put_line(word: &[u8], number: u64, page: &mut Page)
+    requires few { length word.now ≤ 40 }
+    requires room { length page.old + 64 ≤ 65536 }
+    ensures value { page.new ≡ page.old ++ (word.now ++ (decimal number ++ 10 ∷ [])) }
+    ensures bound { length page.new ≤ length page.old + 64 }
+{
+    page.put(word);
+    put_decimal(page, number);
+    page.put(b"\n");
+}
+
+/// The line of a field with so many refusals, where there are any.
+fn put_refused(number: u8, count: u64, page: &mut Page)
+    requires field { number ≤ COUNT }
+    requires room { length page.old + 64 ≤ 65536 }
+    ensures value { page.new ≡ page.old ++ refused_line number count }
+    ensures bound { length page.new ≤ length page.old + 64 }
+{
+    if count == 0 {
+        return;
+    }
+    page.put(b"refused ");
+    page.put(Field::of(number).unwrap().name().as_bytes());
+    page.put(b" ");
+    put_decimal(page, count);
+    page.put(b"\n");
+}
+
+/// The lines of the fields with a refusal, in the order of their numbers.
+fn put_refusals(refused: &[u64; NUMBERS], page: &mut Page)
+    requires { length page.old + 2048 ≤ 65536 }
+    ensures value { page.new ≡ page.old ++ refusal_lines refused.now COUNT }
+    ensures bound { length page.new ≤ length page.old + 2048 }
+{
+    for lesser in 0..field::COUNT {
+        let number = lesser + 1;
+        put_refused(number, refused[usize::from(number)], page);
+    }
+}
+
+/// The last line.
+fn put_end(records: u64, end: End, page: &mut Page)
+    requires { length page.old + 64 ≤ 65536 }
+    ensures { page.new ≡ page.old ++ check_end records end }
+{
+    match end {
+        End::Clean => put_line(b"end ", records, page),
+        End::Torn(at) => put_line(b"torn ", at, page),
+        End::Bad(at) => put_line(b"bad ", at, page),
+    }
+}
+
+/// All lines.
+fn put_counts(counts: &Counts, end: End, page: &mut Page)
+    requires { length page.old + 4096 ≤ 65536 }
+    ensures { page.new ≡ page.old ++ counts_lines counts.now.tally counts.now.refused end }
+{
+    put_line(b"packets ", counts.tally.packets, page);
+    put_line(b"snapped ", counts.tally.snapped, page);
+    put_refusals(&counts.refused, page);
+    put_end(counts.tally.records, end, page);
+}
+
+/// Writes the counts of a capture that ended so.
+fn end_check<K: Sink>(counts: &Counts, end: End, sink: &mut K) -> Result<Outcome, Failed>
+    ensures printed { IsShown result (counts_lines counts.now.tally counts.now.refused end) (end_verdict (counts_status counts.now.tally) end) (K.held sink.old) (K.held sink.new) }
+    ensures faults { CountsFaults (OnErr result) (K.faults sink.old) (K.faults sink.new) }
+{
+    let mut page = Page::new();
+    put_counts(counts, end, &mut page);
+    page.flush(sink)?;
+    Ok(Outcome::of_capture(counts.status(), end))
+}
+
+/// Reads a capture from the source, and counts its records; what it counted is written when it ended.
+fn check<S: Source, K: Sink, L: Ledger>(
+    input: Vec<u8>,
+    source: &mut S,
+    sink: &mut K,
+    steps: &mut Steps<L>,
+) -> Result<Outcome, Failed>
+    requires { LONGEST_RECORD ≤ length input.items }
+    ensures run { CaptureRun Check (S.left source.old) (S.left source.new) (K.held sink.old) (K.held sink.new) steps.old steps.new result }
+    ensures source_later { S.faults source.old ≤ S.faults source.new }
+    ensures source_cause { IfOk result (λ outcome. outcome.status ≡ 5 → Rose (S.faults source.old) (S.faults source.new)) }
+    ensures status { IfOk result (λ outcome. (outcome.status ≡ 6 → ⊥) × (outcome.status ≤ 7)) }
+    ensures sink_faults { CountsFaults (OnErr result) (K.faults sink.old) (K.faults sink.new) }
+{
+    let mut reader = Reader::new(input);
+    let mut counts = Counts::new();
+    match reader.start(source) {
+        Started::Ok(_) => {}
+        Started::Torn => return end_check(&counts, End::Torn(0), sink),
+        Started::Bad(at) => return end_check(&counts, End::Bad(at), sink),
+        Started::ReadFault => return Ok(Outcome::source_fault(reader.taken())),
+    }
+    'records: loop {
+        match reader.next(source) {
+            Next::Rec(record) => counts.count(&judge_record(&record, reader.frame(), steps)),
+            Next::End => return end_check(&counts, End::Clean, sink),
+            Next::Torn(at) => return end_check(&counts, End::Torn(at), sink),
+            Next::Bad(at) => return end_check(&counts, End::Bad(at), sink),
+            Next::ReadFault => return Ok(Outcome::source_fault(reader.taken())),
+            Next::Long => return Ok(Outcome::limit()),
+        }
+    }
+}
+
+/// Reads a capture from the source by way of the buffer, and writes what it counted.
+pub(crate) fn run_check<S: Source, K: Sink, L: Ledger>(
+    input: Vec<u8>,
+    source: &mut S,
+    sink: &mut K,
+    steps: &mut Steps<L>,
+) -> Outcome
+    requires { LONGEST_RECORD ≤ length input.items }
+    ensures run { EndsCapture Check (S.left source.old) (S.left source.new) (K.held sink.old) (K.held sink.new) steps.old steps.new result }
+    ensures status { result.status ≤ 7 }
+    ensures source_later { S.faults source.old ≤ S.faults source.new }
+    ensures sink_later { K.faults sink.old ≤ K.faults sink.new }
+    ensures source_cause { result.status ≡ 5 → Rose (S.faults source.old) (S.faults source.new) }
+    ensures sink_cause { result.status ≡ 6 → Rose (K.faults sink.old) (K.faults sink.new) × (result.at ≡ 0) }
+{
+    match check(input, source, sink, steps) {
+        Ok(outcome) => outcome,
+        Err(_) => Outcome::sink_fault(),
+    }
+}

@@ -1,0 +1,107 @@
+//! Single frames.
+use crate::tests::{ARP, ARP_LINE, OTHER, OTHER_LINE, World, end_of, expect_end, zeros};
+use std::test::Fail;
+
+#[test]
+fn a_frame_of_an_unread_type_is_told_whole(rt: HostRuntime) -> Result<(), Fail> {
+    let told = end_of(rt.alloc(), &["frame"], World::of(OTHER))?;
+    expect_end(&rt, &told, 0, 0, OTHER_LINE);
+    Ok(())
+}
+
+#[test]
+fn the_size_of_the_pieces_plays_no_part(rt: HostRuntime) -> Result<(), Fail> {
+    let pieces = [1; 15];
+    let world = World {
+        pieces: &pieces,
+        ..World::of(OTHER)
+    };
+    let told = end_of(rt.alloc(), &["frame"], world)?;
+    expect_end(&rt, &told, 0, 0, OTHER_LINE);
+    Ok(())
+}
+
+#[test]
+fn the_first_field_that_is_cut_off_is_refused(rt: HostRuntime) -> Result<(), Fail> {
+    let nothing = end_of(rt.alloc(), &["frame"], World::of(b""))?;
+    expect_end(&rt, &nothing, 1, 0, b"refused ethernet.destination 0\n");
+    let thirteen = end_of(rt.alloc(), &["frame"], World::of(&OTHER[..13]))?;
+    expect_end(&rt, &thirteen, 1, 0, b"refused ethernet.type 12\n");
+    Ok(())
+}
+
+#[test]
+fn the_longest_frame_is_told_and_one_octet_more_is_malformed(rt: HostRuntime) -> Result<(), Fail> {
+    let zeros = zeros(rt.alloc(), 262_145)?;
+    let longest = end_of(rt.alloc(), &["frame"], World::of(&zeros[1..]))?;
+    let front = b"ok eth 000000000000 000000000000 other 0 ";
+    let line = longest.written.bytes();
+    assert_eq!(rt; longest.outcome.status, 0);
+    assert_eq!(rt; line.len(), front.len() + 524_260 + 1);
+    assert!(rt; line.starts_with(front));
+    assert!(rt;
+        line[front.len()..line.len() - 1]
+            .iter()
+            .all(|octet| *octet == b'0')
+    );
+    let longer = end_of(rt.alloc(), &["frame"], World::of(&zeros))?;
+    expect_end(&rt, &longer, 3, 262_144, b"");
+    Ok(())
+}
+
+#[test]
+fn a_failing_pull_ends_the_run_at_the_octets_taken(rt: HostRuntime) -> Result<(), Fail> {
+    let at_once = World {
+        failing_pulls: &[1],
+        ..World::of(OTHER)
+    };
+    expect_end(&rt, &end_of(rt.alloc(), &["frame"], at_once)?, 5, 0, b"");
+    let later = World {
+        pieces: &[4, 5],
+        failing_pulls: &[3],
+        ..World::of(OTHER)
+    };
+    expect_end(&rt, &end_of(rt.alloc(), &["frame"], later)?, 5, 9, b"");
+    Ok(())
+}
+
+#[test]
+fn a_failing_push_leaves_a_front_of_the_line(rt: HostRuntime) -> Result<(), Fail> {
+    let world = World {
+        failing_pushes: &[1],
+        ..World::of(OTHER)
+    };
+    let told = end_of(rt.alloc(), &["frame"], world)?;
+    assert_eq!(rt; told.outcome.status, 6);
+    assert_eq!(rt; told.outcome.at, 0);
+    assert!(rt; OTHER_LINE.starts_with(told.written.bytes()));
+    Ok(())
+}
+
+#[test]
+fn the_padding_of_an_arp_packet_plays_no_part(rt: HostRuntime) -> Result<(), Fail> {
+    let padded = end_of(rt.alloc(), &["frame"], World::of(&ARP))?;
+    expect_end(&rt, &padded, 0, 0, ARP_LINE);
+    let bare = end_of(rt.alloc(), &["frame"], World::of(&ARP[..42]))?;
+    expect_end(&rt, &bare, 0, 0, ARP_LINE);
+    Ok(())
+}
+
+#[test]
+fn an_arp_packet_is_refused_at_its_first_wrong_field(rt: HostRuntime) -> Result<(), Fail> {
+    let mut frame = ARP;
+    frame[15] = 6;
+    let hardware = end_of(rt.alloc(), &["frame"], World::of(&frame))?;
+    expect_end(&rt, &hardware, 1, 0, b"refused arp.hardware 14\n");
+    let operation = end_of(rt.alloc(), &["frame"], World::of(&ARP[..21]))?;
+    expect_end(&rt, &operation, 1, 0, b"refused arp.operation 20\n");
+    Ok(())
+}
+
+#[test]
+fn ipv4_is_not_read_yet(rt: HostRuntime) -> Result<(), Fail> {
+    let frame = b"\x02\x00\x00\x00\x00\xaa\x02\x00\x00\x00\x00\xbb\x08\x00\x45";
+    let told = end_of(rt.alloc(), &["frame"], World::of(frame))?;
+    expect_end(&rt, &told, 3, 12, b"");
+    Ok(())
+}
