@@ -5,23 +5,20 @@ use Rattle.std.proofs.lemmas.List.{map-append}
 use Rattle.narc_bits.specs.Octets.{IsOctets}
 use Rattle.narc_bits.specs.declared.limits.TheConstants.{MAX_FRAME}
 use Rattle.narc_bits.proofs.Octets.{IsOctets-front, IsOctets-back}
-use Rattle.narc_format.specs.declared.field.TheConstants as field
-use Rattle.narc_packet.specs.Answer.{Answer}
-use Rattle.narc_stack.specs.Unbuilt.{unbuilt_at}
+use Rattle.narc_packet.specs.Answer.{Answer, IsAnswer}
 use Rattle.narc_stack.proofs.FrameAnswers.{either}
 use Rattle.narc_pcap.specs.Capture.{Entry, is_snapped}
 use Rattle.narc_pcap.specs.Laws.{AreRecords, size_of}
-use Rattle.narc_run.specs.Findings.{Told, IsTold, AreTold, IsEntryAnswer, IsFrameAnswer}
+use Rattle.narc_run.specs.Findings.{Told, IsTold, AreTold, IsEntryAnswer}
 
-frame_answered : (octets : List ℕ) → IsOctets octets → length octets ≤ MAX_FRAME → (u : Option ℕ) → unbuilt_at octets ≡ u → (answer : Answer) × IsFrameAnswer u octets answer
-frame_answered octets each small (Some at) e = (Err (record { field = field.ETHERNET_TYPE; at = at }), refl)
-frame_answered octets each small None e = elim (either octets each e small) [ inl p ↦ (Ok p.0, p.1) | inr r ↦ (Err r.0, r.1) ]
+frame_answered : (octets : List ℕ) → IsOctets octets → length octets ≤ MAX_FRAME → (answer : Answer) × IsAnswer octets answer
+frame_answered octets each small = elim (either octets each small) [ inl p ↦ (Ok p.0, p.1) | inr r ↦ (Err r.0, r.1) ]
 
 entry_answered : (e : Entry) → IsOctets e.octets → length e.octets ≤ MAX_FRAME → (answer : Option Answer) × IsEntryAnswer e answer
 entry_answered e each small = at (is_snapped e.head) refl where
   at : (snapped : Bool) → is_snapped e.head ≡ snapped → (answer : Option Answer) × IsEntryAnswer e answer
   at true s = (None, s)
-  at false s = let a = frame_answered e.octets each small (unbuilt_at e.octets) refl in (Some a.0, (s, a.1))
+  at false s = let a = frame_answered e.octets each small in (Some a.0, (s, a.1))
 
 -- the records of octets
 pub all_answered : (big : Bool) (place : ℕ) (entries : List Entry) (s rest : List ℕ) → AreRecords big place entries s rest → IsOctets s

@@ -4,15 +4,8 @@ use Rattle.narc_format.specs.Rows.{RefusalView}
 use Rattle.narc_packet.specs.Answer.{Answer}
 use Rattle.narc_stack.specs.declared.refusal.Refusal.{Refusal}
 use Rattle.narc_stack.specs.Judgement.{judgement_of, judgement_view}
-use Rattle.narc_stack.specs.Unbuilt.{unbuilt_at}
 use Rattle.narc_pcap.specs.Capture.{Entry}
-use Rattle.narc_run.specs.Findings.{IsEntryAnswer, IsFrameAnswer}
-
--- the judgement of an answer for a frame
-pub record IsFrameJudgement (octets : List ℕ) (judged : Result (Unit {0}) Refusal) : Type 0 where
-  pub answer : Answer
-  pub right : IsFrameAnswer (unbuilt_at octets) octets answer
-  pub same : judgement_of answer ≡ judgement_view judged
+use Rattle.narc_run.specs.Findings.{IsEntryAnswer}
 
 abbrev pub entry_judgement : Option Answer → Option (Result (Unit {0}) RefusalView)
 entry_judgement None = None

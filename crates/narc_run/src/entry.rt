@@ -1,22 +1,18 @@
 //! A record of a capture: its answer, and its line.
-ghost use Rattle.std.specs.Prelude.{◌≡◌, ◌+◌, ◌*◌, ◌≤◌, ◌++◌, length, OnErr};
+ghost use Rattle.std.specs.Prelude.{◌≡◌, ◌+◌, ◌≤◌, ◌++◌, length, OnErr};
 ghost use Rattle.narc_world.specs.Outside.{Rose};
 ghost use Rattle.narc_text.specs.CaptureText.{entry_front, snapped_line};
 ghost use Rattle.narc_text.specs.Printing.{IsPrinted};
-ghost use Rattle.narc_stack.specs.AnswerView.{answer_view};
-ghost use Rattle.narc_stack.specs.Unbuilt.{unbuilt_at};
-ghost use Rattle.narc_format.specs.declared.field.TheConstants as field;
 ghost use Rattle.narc_run.specs.EntryAnswer.{entry_answer};
-ghost use Rattle.narc_run.specs.EntryJudgement.{IsEntryJudgement, IsFrameJudgement};
-ghost use Rattle.narc_run.specs.Findings.{IsEntryAnswer, IsFrameAnswer, entry_cost};
+ghost use Rattle.narc_run.specs.EntryJudgement.{IsEntryJudgement};
+ghost use Rattle.narc_run.specs.Findings.{IsEntryAnswer, entry_cost};
 ghost use Rattle.narc_run.specs.Output.{show_answer};
 
 use crate::frame::print_answer;
 use narc_bits::{MAX_FRAME, Steps};
-use narc_format::{Field, field};
 use narc_packet::Packet;
 use narc_pcap::Record;
-use narc_stack::{Refusal, decode_frame, judge_frame, unbuilt};
+use narc_stack::{Refusal, decode_frame, judge_frame};
 use narc_text::{Page, put_decimal};
 use narc_world::{Failed, Sink};
 use std::sync::ledger::Ledger;
@@ -29,44 +25,6 @@ const LINE: usize = 128;
 
 /// The same without the packet.
 pub(crate) type Judged = Option<Result<(), Refusal>>;
-
-/// A frame whose data is not read yet is refused at the field that announces it.
-fn unread(at: u64) -> Refusal
-    ensures field { result.field ≡ field.ETHERNET_TYPE }
-    ensures place { result.at ≡ at }
-{
-    Refusal {
-        field: Field::of(field::ETHERNET_TYPE).unwrap(),
-        at,
-    }
-}
-
-/// The packet of a frame, or its refusal.
-fn answer_frame<'a, L: Ledger>(
-    octets: &'a [u8],
-    steps: &mut Steps<L>,
-) -> Result<Packet<'a>, Refusal>
-    requires { length octets.now ≤ MAX_FRAME }
-    ensures answer { IsFrameAnswer (unbuilt_at octets.now) octets.now (answer_view result) }
-    ensures cost { steps.new ≤ steps.old + (16 * length octets.now + 1) }
-{
-    match unbuilt(octets) {
-        None => decode_frame(octets, steps),
-        Some(at) => Err(unread(at)),
-    }
-}
-
-/// Whether a frame is a packet's, or its refusal.
-fn judge_octets<L: Ledger>(octets: &[u8], steps: &mut Steps<L>) -> Result<(), Refusal>
-    requires { length octets.now ≤ MAX_FRAME }
-    ensures judged { IsFrameJudgement octets.now result }
-    ensures cost { steps.new ≤ steps.old + (16 * length octets.now + 1) }
-{
-    match unbuilt(octets) {
-        None => judge_frame(octets, steps),
-        Some(at) => Err(unread(at)),
-    }
-}
 
 /// The answer for a record with this frame.
 pub(crate) fn answer_record<'a, L: Ledger>(
@@ -81,7 +39,7 @@ pub(crate) fn answer_record<'a, L: Ledger>(
     if record.captured < record.original {
         None
     } else {
-        Some(answer_frame(octets, steps))
+        Some(decode_frame(octets, steps))
     }
 }
 
@@ -98,7 +56,7 @@ pub(crate) fn judge_record<L: Ledger>(
     if record.captured < record.original {
         None
     } else {
-        Some(judge_octets(octets, steps))
+        Some(judge_frame(octets, steps))
     }
 }
 

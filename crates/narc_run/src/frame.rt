@@ -12,7 +12,7 @@ use crate::input::{Filled, fill};
 use crate::outcome::Outcome;
 use narc_bits::{MAX_FRAME, Steps};
 use narc_packet::Packet;
-use narc_stack::{Refusal, decode_frame, unbuilt};
+use narc_stack::{Refusal, decode_frame};
 use narc_text::{Page, print_packet, put_decimal};
 use narc_world::{FRAME_BUFFER, Failed, Sink, Source};
 use std::sync::ledger::Ledger;
@@ -89,9 +89,6 @@ fn answer_frame<K: Sink, L: Ledger>(
     ensures later { K.faults sink.old ≤ K.faults sink.new }
     ensures cause { OnErr result (Rose (K.faults sink.old) (K.faults sink.new)) }
 {
-    if let Some(at) = unbuilt(octets) {
-        return Ok(Outcome::malformed(at));
-    }
     let answer = decode_frame(octets, steps);
     put_answer(&answer, sink)?;
     match answer {
