@@ -132,10 +132,6 @@ put_word : (h : IpHeader) (k : ℕ) → overlay (header_with h 0) 10 (big_endian
 unfolding overlay
 put_word h k = refl
 
-some_sum : (h : IpHeader) → 0 < total (header_with h 0)
-unfolding total
-some_sum h = omega arith
-
 -- what is written of a header
 pub head_written : IsWrittenWithItsChecksum ip_head
 unfolding stripped named checked
