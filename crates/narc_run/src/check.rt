@@ -18,12 +18,18 @@ use narc_text::{Page, put_decimal};
 use narc_world::{Failed, Sink, Source};
 use std::sync::ledger::Ledger;
 
+/// As many octets as a line has at most: a word, a space or two, a field's name and a number.
+const LINE: usize = 64;
+
+/// As many octets as the lines of all fields have at most.
+const REFUSALS: usize = NUMBERS * LINE;
+
 /// A word with a space behind it, and a number.
 fn put_line(word: &[u8], number: u64, page: &mut Page)
     requires few { length word.now ≤ 40 }
-    requires room { length page.old + 64 ≤ 65536 }
+    requires room { length page.old + LINE ≤ 65536 }
     ensures value { page.new ≡ page.old ++ (word.now ++ (decimal number ++ 10 ∷ [])) }
-    ensures bound { length page.new ≤ length page.old + 64 }
+    ensures bound { length page.new ≤ length page.old + LINE }
 {
     page.put(word);
     put_decimal(page, number);
@@ -33,9 +39,9 @@ fn put_line(word: &[u8], number: u64, page: &mut Page)
 /// The line of a field with so many refusals, where there are any.
 fn put_refused(number: u8, count: u64, page: &mut Page)
     requires field { number ≤ COUNT }
-    requires room { length page.old + 64 ≤ 65536 }
+    requires room { length page.old + LINE ≤ 65536 }
     ensures value { page.new ≡ page.old ++ refused_line number count }
-    ensures bound { length page.new ≤ length page.old + 64 }
+    ensures bound { length page.new ≤ length page.old + LINE }
 {
     if count == 0 {
         return;
@@ -49,9 +55,9 @@ fn put_refused(number: u8, count: u64, page: &mut Page)
 
 /// The lines of the fields with a refusal, in the order of their numbers.
 fn put_refusals(refused: &[u64; NUMBERS], page: &mut Page)
-    requires { length page.old + 2048 ≤ 65536 }
+    requires { length page.old + REFUSALS ≤ 65536 }
     ensures value { page.new ≡ page.old ++ refusal_lines refused.now COUNT }
-    ensures bound { length page.new ≤ length page.old + 2048 }
+    ensures bound { length page.new ≤ length page.old + REFUSALS }
 {
     for lesser in 0..field::COUNT {
         let number = lesser + 1;
@@ -61,7 +67,7 @@ fn put_refusals(refused: &[u64; NUMBERS], page: &mut Page)
 
 /// The last line.
 fn put_end(records: u64, end: End, page: &mut Page)
-    requires { length page.old + 64 ≤ 65536 }
+    requires { length page.old + LINE ≤ 65536 }
     ensures { page.new ≡ page.old ++ check_end records end }
 {
     match end {
@@ -73,7 +79,7 @@ fn put_end(records: u64, end: End, page: &mut Page)
 
 /// All lines.
 fn put_counts(counts: &Counts, end: End, page: &mut Page)
-    requires { length page.old + 4096 ≤ 65536 }
+    requires { length page.old + 2 * REFUSALS ≤ 65536 }
     ensures { page.new ≡ page.old ++ counts_lines counts.now.tally counts.now.refused end }
 {
     put_line(b"packets ", counts.tally.packets, page);

@@ -1,6 +1,6 @@
 //! A record of a capture: its answer, and its line.
 ghost use Rattle.std.specs.Prelude.{◌≡◌, ◌+◌, ◌≤◌, ◌++◌, length, OnErr};
-ghost use Rattle.narc_world.specs.Outside.{Rose};
+ghost use Rattle.narc_world.specs.Outside.{CountsFaults};
 ghost use Rattle.narc_text.specs.CaptureText.{entry_front, snapped_line};
 ghost use Rattle.narc_text.specs.Printing.{IsPrinted};
 ghost use Rattle.narc_run.specs.EntryAnswer.{entry_answer};
@@ -63,8 +63,7 @@ pub(crate) fn judge_record<L: Ledger>(
 /// The line of a snapped record, behind its front.
 fn print_snapped<K: Sink>(record: &Record, page: &mut Page, sink: &mut K) -> Result<(), Failed>
     ensures printed { IsPrinted result (snapped_line record.now.captured record.now.original) page.old page.new (K.held sink.old) (K.held sink.new) }
-    ensures later { K.faults sink.old ≤ K.faults sink.new }
-    ensures cause { OnErr result (Rose (K.faults sink.old) (K.faults sink.new)) }
+    ensures faults { CountsFaults (OnErr result) (K.faults sink.old) (K.faults sink.new) }
 {
     page.make_room(LINE, sink)?;
     page.put(b"snapped ");
@@ -77,7 +76,7 @@ fn print_snapped<K: Sink>(record: &Record, page: &mut Page, sink: &mut K) -> Res
 
 /// The front of a record's line.
 fn put_front(record: &Record, page: &mut Page)
-    requires { length page.old + 128 ≤ 65536 }
+    requires { length page.old + LINE ≤ 65536 }
     ensures { page.new ≡ page.old ++ entry_front record.now.sec record.now.sub }
 {
     page.put(b"rec ");
@@ -95,8 +94,7 @@ fn print_told<K: Sink>(
     sink: &mut K,
 ) -> Result<(), Failed>
     ensures printed { IsPrinted result (show_answer record.now (entry_answer answer.now)) page.old page.new (K.held sink.old) (K.held sink.new) }
-    ensures later { K.faults sink.old ≤ K.faults sink.new }
-    ensures cause { OnErr result (Rose (K.faults sink.old) (K.faults sink.new)) }
+    ensures faults { CountsFaults (OnErr result) (K.faults sink.old) (K.faults sink.new) }
 {
     match answer {
         None => print_snapped(record, page, sink),
@@ -112,8 +110,7 @@ pub(crate) fn print_record<K: Sink>(
     sink: &mut K,
 ) -> Result<(), Failed>
     ensures printed { IsPrinted result (entry_front record.now.sec record.now.sub ++ show_answer record.now (entry_answer answer.now)) page.old page.new (K.held sink.old) (K.held sink.new) }
-    ensures later { K.faults sink.old ≤ K.faults sink.new }
-    ensures cause { OnErr result (Rose (K.faults sink.old) (K.faults sink.new)) }
+    ensures faults { CountsFaults (OnErr result) (K.faults sink.old) (K.faults sink.new) }
 {
     page.make_room(LINE, sink)?;
     put_front(record, page);

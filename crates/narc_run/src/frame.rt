@@ -1,6 +1,6 @@
 //! The job `frame`: one raw frame, the whole input.
 ghost use Rattle.std.specs.Prelude.{◌≡◌, ◌+◌, ◌*◌, ◌≤◌, length, IfOk, MatchResult, OnErr};
-ghost use Rattle.narc_world.specs.Outside.{IsPushed, Rose};
+ghost use Rattle.narc_world.specs.Outside.{CountsFaults, IsPushed, Rose};
 ghost use Rattle.narc_stack.specs.AnswerView.{answer_view};
 ghost use Rattle.narc_packet.specs.PacketView.{view};
 ghost use Rattle.narc_text.specs.Lines.{ok_line};
@@ -23,8 +23,7 @@ const REFUSAL: usize = 80;
 /// The line of a packet.
 fn print_ok<K: Sink>(packet: &Packet<'_>, page: &mut Page, sink: &mut K) -> Result<(), Failed>
     ensures printed { IsPrinted result (ok_line (view packet.now)) page.old page.new (K.held sink.old) (K.held sink.new) }
-    ensures later { K.faults sink.old ≤ K.faults sink.new }
-    ensures cause { OnErr result (Rose (K.faults sink.old) (K.faults sink.new)) }
+    ensures faults { CountsFaults (OnErr result) (K.faults sink.old) (K.faults sink.new) }
 {
     page.make_room(3, sink)?;
     page.put(b"ok ");
@@ -37,8 +36,7 @@ fn print_ok<K: Sink>(packet: &Packet<'_>, page: &mut Page, sink: &mut K) -> Resu
 /// The line of a refusal.
 fn print_refusal<K: Sink>(refusal: &Refusal, page: &mut Page, sink: &mut K) -> Result<(), Failed>
     ensures printed { IsPrinted result (refusal_line refusal.now.field refusal.now.at) page.old page.new (K.held sink.old) (K.held sink.new) }
-    ensures later { K.faults sink.old ≤ K.faults sink.new }
-    ensures cause { OnErr result (Rose (K.faults sink.old) (K.faults sink.new)) }
+    ensures faults { CountsFaults (OnErr result) (K.faults sink.old) (K.faults sink.new) }
 {
     page.make_room(REFUSAL, sink)?;
     page.put(b"refused ");
@@ -56,8 +54,7 @@ pub(crate) fn print_answer<K: Sink>(
     sink: &mut K,
 ) -> Result<(), Failed>
     ensures printed { IsPrinted result (answer_line (answer_view answer.now)) page.old page.new (K.held sink.old) (K.held sink.new) }
-    ensures later { K.faults sink.old ≤ K.faults sink.new }
-    ensures cause { OnErr result (Rose (K.faults sink.old) (K.faults sink.new)) }
+    ensures faults { CountsFaults (OnErr result) (K.faults sink.old) (K.faults sink.new) }
 {
     match answer {
         Ok(packet) => print_ok(packet, page, sink),
@@ -68,8 +65,7 @@ pub(crate) fn print_answer<K: Sink>(
 /// Writes the line for a frame.
 fn put_answer<K: Sink>(answer: &Result<Packet<'_>, Refusal>, sink: &mut K) -> Result<(), Failed>
     ensures pushed { IsPushed result (K.held sink.old) (K.held sink.new) (answer_line (answer_view answer.now)) }
-    ensures later { K.faults sink.old ≤ K.faults sink.new }
-    ensures cause { OnErr result (Rose (K.faults sink.old) (K.faults sink.new)) }
+    ensures faults { CountsFaults (OnErr result) (K.faults sink.old) (K.faults sink.new) }
 {
     let mut page = Page::new();
     print_answer(answer, &mut page, sink)?;
@@ -86,8 +82,7 @@ fn answer_frame<K: Sink, L: Ledger>(
     ensures told { MatchResult result (λ outcome. IsAnswered octets.now outcome.status outcome.at (K.held sink.old) (K.held sink.new)) (λ _. IsCut octets.now (K.held sink.old) (K.held sink.new)) }
     ensures status { IfOk result (λ outcome. outcome.status ≤ 3) }
     ensures cost { steps.new ≤ steps.old + (16 * length octets.now + 1) }
-    ensures later { K.faults sink.old ≤ K.faults sink.new }
-    ensures cause { OnErr result (Rose (K.faults sink.old) (K.faults sink.new)) }
+    ensures faults { CountsFaults (OnErr result) (K.faults sink.old) (K.faults sink.new) }
 {
     let answer = decode_frame(octets, steps);
     put_answer(&answer, sink)?;

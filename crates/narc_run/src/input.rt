@@ -1,6 +1,6 @@
 //! The whole input of a job, in a buffer.
 ghost use Rattle.std.specs.Prelude.{◌≡◌, ◌≤◌, length};
-ghost use Rattle.narc_world.specs.Outside.{Rose};
+ghost use Rattle.narc_world.specs.Outside.{CountsFaults};
 ghost use Rattle.narc_run.specs.Filling.{IsFilled, FaultOf};
 
 use narc_world::{Pulled, Source};
@@ -20,8 +20,7 @@ pub(crate) enum Filled {
 pub(crate) fn fill<S: Source>(buffer: &mut [u8], source: &mut S) -> Filled
     ensures len { length buffer.new ≡ length buffer.old }
     ensures filled { IsFilled result buffer.new (S.left source.old) (S.left source.new) }
-    ensures later { S.faults source.old ≤ S.faults source.new }
-    ensures cause { FaultOf result (Rose (S.faults source.old) (S.faults source.new)) }
+    ensures faults { CountsFaults (FaultOf result) (S.faults source.old) (S.faults source.new) }
 {
     let mut count = 0;
     while count < buffer.len() {

@@ -1,6 +1,6 @@
 //! The job `show`: a capture as text, record by record.
-ghost use Rattle.std.specs.Prelude.{◌≡◌, ◌+◌, ◌*◌, ◌≤◌, ◌++◌, ◌^◌, [], length, IfOk, OnErr};
-ghost use Rattle.narc_world.specs.Outside.{Appends, Rose};
+ghost use Rattle.std.specs.Prelude.{◌≡◌, ◌+◌, ◌*◌, ◌≤◌, ◌++◌, [], length, IfOk, OnErr};
+ghost use Rattle.narc_world.specs.Outside.{CountsFaults, Rose};
 ghost use Rattle.narc_text.specs.Printing.{IsPrinted};
 ghost use Rattle.narc_run.specs.Job.{Show};
 ghost use Rattle.narc_run.specs.Output.{header_line};
@@ -24,8 +24,7 @@ const LINE: usize = 128;
 /// The line of a capture's header.
 fn print_header<K: Sink>(header: &Header, page: &mut Page, sink: &mut K) -> Result<(), Failed>
     ensures printed { IsPrinted result (header_line header.now) page.old page.new (K.held sink.old) (K.held sink.new) }
-    ensures later { K.faults sink.old ≤ K.faults sink.new }
-    ensures cause { OnErr result (Rose (K.faults sink.old) (K.faults sink.new)) }
+    ensures faults { CountsFaults (OnErr result) (K.faults sink.old) (K.faults sink.new) }
 {
     page.make_room(LINE, sink)?;
     put_header(header, page);
@@ -33,7 +32,7 @@ fn print_header<K: Sink>(header: &Header, page: &mut Page, sink: &mut K) -> Resu
 }
 
 fn put_header(header: &Header, page: &mut Page)
-    requires { length page.old + 128 ≤ 65536 }
+    requires { length page.old + LINE ≤ 65536 }
     ensures { page.new ≡ page.old ++ header_line header.now }
 {
     match header.unit {
@@ -46,7 +45,7 @@ fn put_header(header: &Header, page: &mut Page)
 
 /// The last line of a capture.
 fn put_end(end: End, tally: &Tally, page: &mut Page)
-    requires { length page.old + 128 ≤ 65536 }
+    requires { length page.old + LINE ≤ 65536 }
     ensures { page.new ≡ page.old ++ tally_line tally.now end }
 {
     match end {
@@ -65,7 +64,7 @@ fn put_end(end: End, tally: &Tally, page: &mut Page)
 }
 
 fn put_counts(tally: &Tally, page: &mut Page)
-    requires { length page.old + 128 ≤ 65536 }
+    requires { length page.old + LINE ≤ 65536 }
     ensures { page.new ≡ page.old ++ tally_line tally.now End.Clean }
 {
     page.put(b"end ");
@@ -87,8 +86,7 @@ fn end_capture<K: Sink>(
     sink: &mut K,
 ) -> Result<Outcome, Failed>
     ensures printed { IsShown result (page.old ++ tally_line tally.now end) (end_verdict 0 end) (K.held sink.old) (K.held sink.new) }
-    ensures later { K.faults sink.old ≤ K.faults sink.new }
-    ensures cause { OnErr result (Rose (K.faults sink.old) (K.faults sink.new)) }
+    ensures faults { CountsFaults (OnErr result) (K.faults sink.old) (K.faults sink.new) }
 {
     page.make_room(LINE, sink)?;
     put_end(end, tally, page);
@@ -99,8 +97,7 @@ fn end_capture<K: Sink>(
 /// Pushes all that is on the page, and ends with this outcome.
 fn end_early<K: Sink>(outcome: Outcome, page: &mut Page, sink: &mut K) -> Result<Outcome, Failed>
     ensures printed { IsShown result page.old (record { status = outcome.status; at = outcome.at }) (K.held sink.old) (K.held sink.new) }
-    ensures later { K.faults sink.old ≤ K.faults sink.new }
-    ensures cause { OnErr result (Rose (K.faults sink.old) (K.faults sink.new)) }
+    ensures faults { CountsFaults (OnErr result) (K.faults sink.old) (K.faults sink.new) }
 {
     page.flush(sink)?;
     Ok(outcome)
@@ -109,8 +106,7 @@ fn end_early<K: Sink>(outcome: Outcome, page: &mut Page, sink: &mut K) -> Result
 /// Pushes all that is on the page before a record that has to be pulled, so that who reads sees the lines at once.
 fn tell_waiting<K: Sink>(reader: &Reader, page: &mut Page, sink: &mut K) -> Result<(), Failed>
     ensures printed { IsPrinted result [] page.old page.new (K.held sink.old) (K.held sink.new) }
-    ensures later { K.faults sink.old ≤ K.faults sink.new }
-    ensures cause { OnErr result (Rose (K.faults sink.old) (K.faults sink.new)) }
+    ensures faults { CountsFaults (OnErr result) (K.faults sink.old) (K.faults sink.new) }
 {
     if reader.is_ready() {
         return Ok(());
@@ -128,10 +124,9 @@ fn show<S: Source, K: Sink, L: Ledger>(
     requires { LONGEST_RECORD ≤ length input.items }
     ensures run { CaptureRun Show (S.left source.old) (S.left source.new) (K.held sink.old) (K.held sink.new) steps.old steps.new result }
     ensures source_later { S.faults source.old ≤ S.faults source.new }
-    ensures sink_later { K.faults sink.old ≤ K.faults sink.new }
     ensures source_cause { IfOk result (λ outcome. outcome.status ≡ 5 → Rose (S.faults source.old) (S.faults source.new)) }
     ensures status { IfOk result (λ outcome. (outcome.status ≡ 6 → ⊥) × (outcome.status ≤ 7)) }
-    ensures sink_cause { OnErr result (Rose (K.faults sink.old) (K.faults sink.new)) }
+    ensures sink_faults { CountsFaults (OnErr result) (K.faults sink.old) (K.faults sink.new) }
 {
     let mut reader = Reader::new(input);
     let mut page = Page::new();

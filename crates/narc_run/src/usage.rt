@@ -1,6 +1,6 @@
 //! The answer to words that are no job.
-ghost use Rattle.std.specs.Prelude.{◌≡◌, ◌≤◌, OnErr};
-ghost use Rattle.narc_world.specs.Outside.{IsPushed, Rose};
+ghost use Rattle.std.specs.Prelude.{◌≡◌, OnErr};
+ghost use Rattle.narc_world.specs.Outside.{CountsFaults, IsPushed};
 ghost use Rattle.narc_run.specs.Output.{usage_line};
 
 use narc_world::{Failed, Sink};
@@ -11,8 +11,7 @@ const USAGE: &[u8] =
 /// Writes the usage line.
 pub(crate) fn tell_usage<K: Sink>(sink: &mut K) -> Result<(), Failed>
     ensures pushed { IsPushed result (K.held sink.old) (K.held sink.new) usage_line }
-    ensures later { K.faults sink.old ≤ K.faults sink.new }
-    ensures cause { OnErr result (Rose (K.faults sink.old) (K.faults sink.new)) }
+    ensures faults { CountsFaults (OnErr result) (K.faults sink.old) (K.faults sink.new) }
 {
     sink.push(USAGE)
 }
