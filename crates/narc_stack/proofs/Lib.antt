@@ -9,3 +9,5 @@ pub mod Ipv4Sound
 pub mod FrameSound
 pub mod FrameSeen
 pub mod FrameAnswers
+pub mod Canonical
+pub mod FrameAdmits
