@@ -209,7 +209,7 @@ canonical_body src dst s d (UdpBody u) w short = canonical_is_udp src dst s d u 
 canonical_body src dst s d (TcpBody t) w short = canonical_is_tcp src dst s d t w.0 w.1 short
 canonical_body src dst s d (RawBody protocol payload) w short = (w.0, refl, w.1)
 
-canonical_length : (src dst : List ℕ) (b : IpBodyView) → length (canonical_ip_body src dst b) ≡ smallest_length b
+pub canonical_length : (src dst : List ℕ) (b : IpBodyView) → length (canonical_ip_body src dst b) ≡ smallest_length b
 canonical_length src dst (UdpBody u) = omega arith
 canonical_length src dst (TcpBody t) = omega (arith, length-append (tcp_area t.options) t.payload)
 canonical_length src dst (RawBody protocol payload) = refl
@@ -219,7 +219,7 @@ body_each src dst (UdpBody u) x h = h.octets
 body_each src dst (TcpBody t) x h = h.octets
 body_each src dst (RawBody protocol payload) x h = h.2
 
-known_protocol : (b : IpBodyView) → IsWellFormedIpBody b → protocol_of b < 256
+pub known_protocol : (b : IpBodyView) → IsWellFormedIpBody b → protocol_of b < 256
 known_protocol (UdpBody u) w = lit< tt
 known_protocol (TcpBody t) w = lit< tt
 known_protocol (RawBody protocol payload) w = w.0

@@ -11,3 +11,5 @@ pub mod FrameSeen
 pub mod FrameAnswers
 pub mod Canonical
 pub mod FrameAdmits
+pub mod Ipv4Written
+pub mod FrameWritten
