@@ -118,11 +118,11 @@ unread_data false true is_udp e k = cc
 unread_data false false true e k = cc
 unread_data false false false e k = refl
 
-taken : (n protocol : ℕ) (fragment : Bool) → n ≡ protocol → IsFalse fragment → (nat_eq protocol n && not fragment) ≡ true
+pub taken : (n protocol : ℕ) (fragment : Bool) → n ≡ protocol → IsFalse fragment → (nat_eq protocol n && not fragment) ≡ true
 taken n protocol true e whole = cc
 taken n protocol false e whole = ap (λ t. t && true) (eq-eqb protocol n (sym e))
 
-not_taken : (fragment is_tcp is_udp : Bool) → IsTrue (fragment || not (is_tcp || is_udp)) → ((is_tcp && not fragment) ≡ false) × ((is_udp && not fragment) ≡ false)
+pub not_taken : (fragment is_tcp is_udp : Bool) → IsTrue (fragment || not (is_tcp || is_udp)) → ((is_tcp && not fragment) ≡ false) × ((is_udp && not fragment) ≡ false)
 not_taken true true true h = (refl, refl)
 not_taken true true false h = (refl, refl)
 not_taken true false true h = (refl, refl)

@@ -147,3 +147,7 @@ frame_laws =
     let body = united_tail_laws by_type (λ t. t < 2 ^ 64) padded_arp ipv4_or_other padded other in
     stripped_tail_laws packet_of (λ c p. raw_frame p) SamePacket header_and_body
     (seq_tail_laws here (λ c (h : Header). h.1.1) (λ c. Unit {0}) eth_head frame_body eth_head_layout.shape.laws body)
+
+pub frame_valid : whole_frame.valid tt
+unfolding stripped seq_tail
+frame_valid = tt

@@ -31,7 +31,7 @@ pub record IsPaddedIpv4 (p : Ipv4) (x : List ℕ) : Type 0 where
 abbrev header_with : Ipv4View → (sum area_length content_length protocol : ℕ) → List ℕ
 header_with p sum area_length content_length protocol = ipv4_header (record p { body = RawBody protocol [] }) sum area_length content_length
 
-protocol_view : (b : IpBody) → ip.protocol_of (ip_body_view b) ≡ protocol_of b
+pub protocol_view : (b : IpBody) → ip.protocol_of (ip_body_view b) ≡ protocol_of b
 protocol_view (ip_body.Udp u) = refl
 protocol_view (ip_body.Tcp t) = refl
 protocol_view (ip_body.Raw protocol payload) = refl

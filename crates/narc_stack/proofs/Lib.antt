@@ -9,3 +9,7 @@ pub mod Ipv4Sound
 pub mod FrameSound
 pub mod FrameSeen
 pub mod FrameAnswers
+pub mod Canonical
+pub mod FrameAdmits
+pub mod Ipv4Written
+pub mod FrameWritten

@@ -11,6 +11,8 @@ ghost use Rattle.narc_packet.specs.WellFormed.{SpellsOptions};
 ghost use Rattle.narc_packet.specs.Frame.{IsFrame};
 ghost use Rattle.narc_packet.specs.Refusal.{rows_for, refusal};
 ghost use Rattle.narc_stack.specs.WholeFrame.{by_type, by_ipv4};
+ghost use Rattle.narc_stack.specs.Admitted.{IsAdmitted};
+ghost use Rattle.narc_stack.specs.Written.{written};
 
 use crate::as_packet::{AsPacket, Header};
 use crate::ipv4_part::Ipv4Part;
@@ -137,4 +139,16 @@ pub fn octets_are_a_frame_or_refused()
     ensures either { (b : List ℕ) → IsOctets b → length b ≤ 262144 → ((p : PacketView) × IsFrame p b) ⊎ ((r : RefusalView) × (refusal b ≡ Some r)) }
     ensures never_both { (b : List ℕ) (p : PacketView) → IsFrame p b → refusal b ≡ None }
     ensures one_packet { (b : List ℕ) (p q : PacketView) → IsFrame p b → IsFrame q b → p ≡ q }
+{}
+
+/// A packet can be written exactly where it is well formed, whatever the length of its unread data, and its slices of
+/// options spell them and nothing else.
+pub fn frame_admits_its_packets()
+    ensures { (p : Packet) → ⟦<Frame as Tail<Cursor<'static>>>⟧.meaning.admits tt p ↔ (IsAdmitted (view p) × SpellsOptions p) }
+{}
+
+/// What is written for a packet: its octets, with the shortest areas of options and no surplus, and for ARP and IPv4 octets
+/// 0 behind them, up to 60.
+pub fn frame_is_written_with_padding()
+    ensures { (p : Packet) → IsAdmitted (view p) → SpellsOptions p → ⟦<Frame as Tail<Cursor<'static>>>⟧.meaning.spelling tt p ≡ bits (written (view p)) }
 {}

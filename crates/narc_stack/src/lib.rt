@@ -10,14 +10,16 @@ mod ipv4;
 mod ipv4_part;
 mod judge;
 mod refusal;
+#[cfg(test)]
+mod tests;
 
 pub use as_ipv4::AsIpv4;
 pub use as_packet::AsPacket;
 pub use content::{ByTcp, ByUdp, Content, ContentOctets, IpContent};
 pub use decode::decode_frame;
 pub use frame::{
-    ByIpv4, ByType, Frame, ShortestFrame, TypeOfHeader, frame_is_its_octets,
-    frame_is_refused_by_row, frame_is_sound, octets_are_a_frame_or_refused,
+    ByIpv4, ByType, Frame, ShortestFrame, TypeOfHeader, frame_admits_its_packets,
+    frame_is_its_octets, frame_is_refused_by_row, frame_is_sound, frame_is_written_with_padding, octets_are_a_frame_or_refused,
 };
 pub use ipv4::{ContentOf, Ipv4Format, OctetsThere, ZerosBehind};
 pub use ipv4_part::Ipv4Part;

@@ -1,0 +1,63 @@
+//! The types that frames and their parts are built of.
+use crate::{
+    AsIpv4, AsPacket, ByIpv4, ByTcp, ByType, ByUdp, ContentOctets, ContentOf, Frame, IpContent,
+    Ipv4Format, Ipv4Part, OctetsThere, ShortestFrame, TypeOfHeader, ZerosBehind,
+};
+use narc_compose::{Measured, Parted, SeqTail, Strip, Union};
+use narc_eth::{ArpFormat, EthHead};
+use narc_ipv4::IpHead;
+use narc_list::{Bytes, Pad, Region};
+use narc_transport::{TcpPart, UdpPart};
+use std::marker::PhantomData;
+
+/// Both are of one type.
+fn are_one<T>(_alias: PhantomData<T>, _written: PhantomData<T>) {}
+
+#[test]
+fn a_frame_is_a_header_and_what_its_type_says(_rt: HostRuntime) {
+    are_one(
+        PhantomData::<Frame>,
+        PhantomData::<
+            Strip<
+                SeqTail<
+                    EthHead,
+                    Union<
+                        ByType,
+                        SeqTail<ArpFormat, Pad, ShortestFrame>,
+                        Union<ByIpv4, Parted<Ipv4Part>, Bytes>,
+                    >,
+                    TypeOfHeader,
+                >,
+                AsPacket,
+            >,
+        >,
+    );
+}
+
+#[test]
+fn an_ipv4_packet_is_a_header_and_data_and_padding(_rt: HostRuntime) {
+    are_one(
+        PhantomData::<Ipv4Format<'static>>,
+        PhantomData::<
+            Strip<
+                Measured<
+                    SeqTail<
+                        IpHead<'static>,
+                        SeqTail<Region<IpContent, ContentOctets>, Pad, ZerosBehind>,
+                        ContentOf,
+                    >,
+                    OctetsThere,
+                >,
+                AsIpv4,
+            >,
+        >,
+    );
+}
+
+#[test]
+fn data_is_a_datagram_or_a_segment_or_unread(_rt: HostRuntime) {
+    are_one(
+        PhantomData::<IpContent>,
+        PhantomData::<Union<ByUdp, Parted<UdpPart>, Union<ByTcp, Parted<TcpPart>, Bytes>>>,
+    );
+}
