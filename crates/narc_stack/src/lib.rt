@@ -19,7 +19,8 @@ pub use content::{ByTcp, ByUdp, Content, ContentOctets, IpContent};
 pub use decode::decode_frame;
 pub use frame::{
     ByIpv4, ByType, Frame, ShortestFrame, TypeOfHeader, frame_admits_its_packets,
-    frame_is_its_octets, frame_is_refused_by_row, frame_is_sound, frame_is_written_with_padding, octets_are_a_frame_or_refused,
+    frame_is_its_octets, frame_is_refused_by_row, frame_is_sound, frame_is_written_with_padding,
+    octets_are_a_frame_or_refused,
 };
 pub use ipv4::{ContentOf, Ipv4Format, OctetsThere, ZerosBehind};
 pub use ipv4_part::Ipv4Part;
