@@ -37,13 +37,13 @@ pub view_of_fields : (o : IpOptionView) → raw_view (fields_of o) ≡ o
 view_of_fields IpNop = refl
 view_of_fields (IpOther kind octets) = refl
 
-kind_holds : (n : ℕ) → 1 ≤ n → IsTrue (is_kind tt n)
+pub kind_holds : (n : ℕ) → 1 ≤ n → IsTrue (is_kind tt n)
 kind_holds n h = ap not (ne_eqb n 0 (λ e. omega (arith, h, e)))
 
-length_holds : (n : ℕ) → 2 ≤ n → n ≤ 40 → IsTrue (is_option_length tt n)
+pub length_holds : (n : ℕ) → 2 ≤ n → n ≤ 40 → IsTrue (is_option_length tt n)
 length_holds n h k = and_from (nat_lt 1 n) (nat_lt n 41) (lt-ltb 1 n (omega (arith, h))) (lt-ltb n 41 (omega (arith, k)))
 
-no_bits : (b : List Bool) → length b ≡ 8 * 0 → b ≡ []
+pub no_bits : (b : List Bool) → length b ≡ 8 * 0 → b ≡ []
 no_bits b h = nil_from_length b (omega (arith, h))
 
 -- what stands behind a kind

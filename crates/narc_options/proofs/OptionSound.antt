@@ -28,22 +28,22 @@ length_least n h = omega (arith, ltb-true 1 n (and_parts (nat_lt 1 n) (nat_lt n 
 pub length_most : (n : ℕ) → IsTrue (is_option_length tt n) → n ≤ 40
 length_most n h = omega (arith, ltb-true n 41 (and_parts (nat_lt 1 n) (nat_lt n 41) h).1)
 
-kind_sound : option_kind.sound
+pub kind_sound : option_kind.sound
 unfolding tested word
 kind_sound = record { format = (lit≤ tt, lit≤ tt); steady = λ c v w e. ap (is_kind c) e }
 
-length_sound : option_length.sound
+pub length_sound : option_length.sound
 unfolding tested word
 length_sound = record { format = (lit≤ tt, lit≤ tt); steady = λ c v w e. ap (is_option_length c) e }
 
-data_sound : option_data.sound
+pub data_sound : option_data.sound
 unfolding region measured all_octets
 data_sound = record {
   part_sound = record { part_sound = tt; measured_valid = λ c ok n small. tt; written_valid = λ c ok. tt; same = λ c ok v b. (λ p. p, λ p. p) };
   fills = λ c ok v b size p. ap length (sym p.1) ∙ size;
 }
 
-nothing_sound : nothing.sound
+pub nothing_sound : nothing.sound
 unfolding region padding
 nothing_sound = record { part_sound = tt; fills = λ c ok v b size p. omega (arith, length-bits (replicate c 0), length-replicate {A = ℕ} c 0) }
 

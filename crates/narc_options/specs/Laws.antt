@@ -15,16 +15,16 @@ use Rattle.narc_list.specs.RegionLaws.{region_laws}
 use Rattle.narc_list.specs.UntilLaws.{until_laws}
 use Rattle.narc_options.specs.Option.{is_kind, is_option_length, by_kind, option_kind, option_length, any_octets, option_data, nothing, length_and_data, behind_kind, option_fields, option_area, option_region}
 
-option_kind_laws : Laws option_kind
+pub option_kind_laws : Laws option_kind
 option_kind_laws = tested_laws is_kind (word 8) (word_laws 8)
 
-option_length_laws : Laws option_length
+pub option_length_laws : Laws option_length
 option_length_laws = tested_laws is_option_length (word 8) (word_laws 8)
 
 pub option_data_laws : Laws option_data
 option_data_laws = region_laws (λ c. c) any_octets (measured_laws (λ c n. tt) (λ c. tt) (λ c. c < 2 ^ 64) all_octets all_octets_laws)
 
-nothing_laws : Laws nothing
+pub nothing_laws : Laws nothing
 nothing_laws = region_laws (λ c. c) padding padding_laws
 
 length_and_data_laws : Laws length_and_data

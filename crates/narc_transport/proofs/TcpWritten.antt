@@ -1,5 +1,5 @@
 -- Which segments can be written, and what is written of them.
-use Rattle.std.proofs.Common.{◌≡◌, ℕ, zero, suc, ◌+◌, ◌*◌, ◌-◌, ◌/◌, ◌%◌, ◌^◌, ◌<◌, ◌≤◌, ◌↔◌, min, Bool, List, [], ◌∷◌, ◌++◌, length, replicate, refl, sym, ap, ◌∙◌, subst, length-append, arith}
+use Rattle.std.proofs.Common.{◌≡◌, ℕ, zero, suc, ◌+◌, ◌*◌, ◌-◌, ◌/◌, ◌%◌, ◌^◌, ◌<◌, ◌≤◌, ◌↔◌, min, List, [], ◌∷◌, ◌++◌, length, replicate, refl, sym, ap, ◌∙◌, subst, length-append, arith}
 use Rattle.std.specs.Prelude.{flat_map}
 use Rattle.std.proofs.Math.ListN.{length-replicate}
 use Rattle.std.specs.Borrow.{Bor}
@@ -7,7 +7,7 @@ use Rattle.std.specs.List.{AllByRecursion}
 use Rattle.narc_bits.specs.Octets.{IsOctets, big_endian}
 use Rattle.narc_bits.proofs.Octets.{IsOctets-append, IsOctets-big_endian}
 use Rattle.narc_bits.specs.Bits.{bits, bits_of_number, overlay}
-use Rattle.narc_bits.specs.InternetSum.{total, checksum}
+use Rattle.narc_bits.specs.InternetSum.{checksum}
 use Rattle.narc_bits.proofs.Numbers.{bits-append}
 use Rattle.narc_bits.proofs.Spelled.{bits-big_endian}
 use Rattle.narc_scalar.specs.Tested.{tested}
@@ -34,7 +34,7 @@ use Rattle.narc_transport.specs.declared.as_tcp.TcpWithOffset.{TcpWithOffset}
 use Rattle.narc_transport.specs.declared.context.Ends.{Ends}
 use Rattle.narc_transport.specs.Context.{IsThere}
 use Rattle.narc_transport.specs.Written.{FitsTcp}
-use Rattle.narc_transport.specs.Tcp.{tcp_area_length, tcp_pseudo_of, RawTcp, tcp_of, raw_tcp, tcp_segment, tcp_summed, tcp_format}
+use Rattle.narc_transport.specs.Tcp.{tcp_area_length, tcp_pseudo_of, RawTcp, tcp_of, raw_tcp, tcp_segment, tcp_format}
 use Rattle.narc_transport.proofs.TcpChosen.{AreFields, summed_fields, summed_admits, summed_short, tcp_filled, offset_fits, offset_least, offset_most}
 use Rattle.narc_transport.proofs.TcpOctets.{pseudo_even, tcp_again, read_back}
 

@@ -26,6 +26,7 @@ use Rattle.narc_sum.specs.Checked.{checked_or_none}
 use Rattle.narc_packet.specs.declared.packet.Udp.{Udp}
 use Rattle.narc_packet.specs.PacketView.{UdpView}
 use Rattle.narc_layout.proofs.Sizes.{pair_eq}
+use Rattle.narc_options.proofs.OptionSound.{data_sound}
 use Rattle.narc_transport.specs.declared.context.Ends.{Ends}
 use Rattle.narc_transport.specs.Context.{IsThere}
 use Rattle.narc_transport.specs.Udp.{is_udp_length, udp_pseudo_of, RawUdpFront, RawDatagram, RawUdp, udp_of, raw_udp, SameUdp, udp_front, udp_payload, udp_datagram, udp_summed, udp_and_surplus, udp_format}
@@ -67,18 +68,11 @@ front_size c v b p =
 front_wide : IsWide udp_front 48
 front_wide = wide-sized udp_front_laws (λ s. front_size)
 
-payload_sound : udp_payload.sound
-unfolding region measured all_octets
-payload_sound = record {
-  part_sound = record { part_sound = tt; measured_valid = λ c ok n h. tt; written_valid = λ c ok. tt; same = λ c ok v b. (λ p. p, λ p. p) };
-  fills = λ c ok v b size p. ap length (sym p.1) ∙ size;
-}
-
 datagram_sound : udp_datagram.sound
 unfolding seq gapped region measured all_octets named tested word
 datagram_sound = record {
   first_sound = record { part_sound = front_sound; wide = front_wide; words = refl };
-  second_sound = payload_sound;
+  second_sound = data_sound;
   carries = record { first_valid = λ c ok. ok.1; second_valid = λ c v ok a. omega (arith, a.2.0); same = λ c v w a. ap (λ n. n - 8) a.1 };
   meets = λ h. refl;
 }

@@ -1,8 +1,8 @@
 -- Which datagrams can be written, and what is written of them.
-use Rattle.std.proofs.Common.{◌≡◌, ℕ, ◌+◌, ◌*◌, ◌-◌, ◌%◌, ◌^◌, ◌<◌, ◌≤◌, ◌↔◌, List, ◌++◌, length, replicate, nat_eq, if◌then◌else◌, refl, sym, ap, ◌∙◌, append-nil, arith}
+use Rattle.std.proofs.Common.{◌≡◌, ℕ, ◌+◌, ◌*◌, ◌-◌, ◌^◌, ◌<◌, ◌≤◌, ◌↔◌, ◌++◌, length, replicate, nat_eq, if◌then◌else◌, refl, sym, ap, ◌∙◌, append-nil, arith}
 use Rattle.narc_bits.specs.Octets.{IsOctets, big_endian}
 use Rattle.narc_bits.specs.Bits.{bits, bits_of_number, overlay}
-use Rattle.narc_bits.specs.InternetSum.{total, checksum}
+use Rattle.narc_bits.specs.InternetSum.{checksum}
 use Rattle.narc_bits.proofs.Octets.{IsOctets-append, IsOctets-big_endian}
 use Rattle.narc_bits.proofs.Spelled.{bits-big_endian}
 use Rattle.narc_bits.proofs.Numbers.{length-bits, bits-append}

@@ -1,4 +1,5 @@
 pub mod Context
+pub mod Option
 pub mod Udp
 pub mod Tcp
 pub mod Segment
