@@ -4,6 +4,8 @@
 mod area;
 mod laws;
 mod option;
+#[cfg(test)]
+mod tests;
 
 pub use area::{OptionArea, OptionRegion};
 pub use laws::{
