@@ -5,9 +5,11 @@ use Rattle.std.specs.List.{AllByRecursion}
 use Rattle.std.proofs.lemmas.Bool.{lt-ltb, eqb-true}
 use Rattle.std.proofs.lemmas.List.{take_at, length-replicate}
 use Rattle.narc_bits.specs.Octets.{IsOctets, big_endian}
-use Rattle.narc_bits.specs.InternetSum.{total, is_good_sum, IsGoodSum, checksum}
+use Rattle.narc_bits.specs.InternetSum.{total, complement, IsGoodTotal, is_good_sum, IsGoodSum, checksum}
 use Rattle.narc_bits.proofs.Octets.{IsOctets-append, IsOctets-big_endian}
 use Rattle.narc_bits.proofs.Sums.{total-append, total-word}
+use Rattle.narc_sum.specs.Checked.{never_zero}
+use Rattle.narc_sum.specs.Seals.{complement_good, complement_full_good}
 use Rattle.narc_packet.specs.declared.packet.Arp.{Arp}
 use Rattle.narc_packet.specs.Ranges.{IsIp, IsMac, IsArpInRange, IsUdpInRange, IsTcpInRange}
 use Rattle.narc_packet.specs.Options.{IpOptionView, IpNop, IpOther, TcpOptionView, TcpNop, TcpMss, TcpOther, IsOtherOption, ip_option, tcp_option, IsIpOption, IsTcpOption, IsListEnd, IsArea, filled, ip_area, tcp_area}
@@ -19,10 +21,6 @@ use Rattle.narc_packet.specs.Frame.{IsEthBody, IsFrame, arp_octets, ether_type_o
 use Rattle.narc_packet.specs.WellFormed.{FitArea, IsWellFormedIpBody, IsWellFormedIpv4, smallest_length}
 use Rattle.narc_stack.specs.Admitted.{IsAdmittedBody, IsAdmitted}
 use Rattle.narc_stack.specs.Written.{content_of, padded_to, shortest, written}
-
--- a good total, by its tests
-good : (n : ℕ) → 0 < n → n % 65535 ≡ 0 → IsTrue (nat_lt 0 n && nat_eq (n % 65535) 0)
-good n some multiple = ap (λ t. t && nat_eq (n % 65535) 0) (lt-ltb 0 n some) ∙ ap (λ k. nat_eq k 0) multiple
 
 -- a word behind an even number of octets
 total_at : (front back : List ℕ) (k : ℕ) → length front % 2 ≡ 0 → k < 65536 → total (front ++ (big_endian 2 k ++ back)) ≡ total front + (k + total back)
@@ -38,13 +36,18 @@ module _ (front back : List ℕ) (even : length front % 2 ≡ 0) (some : 0 < tot
       let n = total unsummed in
       let zero = total_at front back 0 even (lit< tt) in
       let whole = total_at front back (checksum unsummed) even (omega arith) in
-      good (total (front ++ (big_endian 2 (checksum unsummed) ++ back))) (omega (arith, some, whole)) (omega (arith, zero, whole))
+      let grown : total (front ++ (big_endian 2 (checksum unsummed) ++ back)) ≡ n + complement n = omega (arith, zero, whole) in
+      subst IsGoodTotal (sym grown) (complement_good n (omega (arith, some, zero)))
 
   pub ones_are_good : nat_eq (checksum unsummed) 0 ≡ true → IsGoodSum (front ++ (big_endian 2 65535 ++ back))
+  unfolding never_zero
   ones_are_good e =
+      let n = total unsummed in
       let zero = total_at front back 0 even (lit< tt) in
       let whole = total_at front back 65535 even (lit< tt) in
-      good (total (front ++ (big_endian 2 65535 ++ back))) (omega (arith, some, whole)) (omega (arith, zero, whole, eqb-true (checksum unsummed) 0 e))
+      let grown : total (front ++ (big_endian 2 65535 ++ back)) ≡ n + 65535 = omega (arith, zero, whole) in
+      let full : IsGoodTotal (n + never_zero (complement n)) = complement_full_good n (omega (arith, some, zero)) in
+      subst IsGoodTotal (sym grown) (subst (λ w. IsGoodTotal (n + never_zero w)) (eqb-true (complement n) 0 e) full)
 
 zeros_each : (k : ℕ) → IsOctets (replicate k 0)
 zeros_each zero = tt
