@@ -10,6 +10,7 @@ import struct
 import sys
 
 POOL = 5000
+CONVERSATIONS = 64
 LINK_ETHERNET = 1
 
 
@@ -23,8 +24,11 @@ def checksum(octets):
     return 0xFFFF - total
 
 
-def addresses(rng):
-    return bytes([10, 0, rng.randrange(256), rng.randrange(1, 255)]), bytes([10, 1, rng.randrange(256), rng.randrange(1, 255)])
+def conversation(rng):
+    """Addresses and ports of two hosts. The ports are those of no protocol that other readers would go on to decode."""
+    source = bytes([10, 0, rng.randrange(256), rng.randrange(1, 255)])
+    destination = bytes([10, 1, rng.randrange(256), rng.randrange(1, 255)])
+    return source, destination, struct.pack(">HH", rng.randrange(40000, 60000), rng.randrange(40000, 60000))
 
 
 def ipv4(rng, protocol, source, destination, data, fragment=0x4000, options=b""):
@@ -35,31 +39,31 @@ def ipv4(rng, protocol, source, destination, data, fragment=0x4000, options=b"")
     return front + struct.pack(">H", checksum(front + b"\0\0" + addressed)) + addressed + data
 
 
-def udp(rng, source, destination, payload):
+def udp(rng, source, destination, ports, payload):
     """A UDP datagram (RFC 768); one in eight has no checksum."""
-    front = struct.pack(">HHH", rng.randrange(1024, 65536), rng.choice([53, 123, 443, 5353]), 8 + len(payload))
+    front = ports + struct.pack(">H", 8 + len(payload))
     pseudo = source + destination + b"\0\x11" + struct.pack(">H", 8 + len(payload))
     total = 0 if rng.randrange(8) == 0 else checksum(pseudo + front + b"\0\0" + payload) or 0xFFFF
     return front + struct.pack(">H", total) + payload
 
 
-def tcp(rng, source, destination, payload):
+def tcp(rng, source, destination, ports, payload):
     """A TCP segment (RFC 793): a connection request, or data behind a time stamp."""
     if rng.randrange(5) == 0:
         options, flags, payload = bytes.fromhex("020405b40402080a000000010000000001030307"), 0x02, b""
     else:
         options, flags = b"\1\1\x08\x0a" + rng.randbytes(8), 0x10
-    front = struct.pack(">HHIIHH", rng.randrange(1024, 65536), rng.choice([80, 443, 22]), rng.randrange(2**32), rng.randrange(2**32),
-                        (20 + len(options)) // 4 << 12 | flags, 8192)
+    offset = (20 + len(options)) // 4
+    front = ports + struct.pack(">IIHH", rng.randrange(2**32), rng.randrange(2**32), offset << 12 | flags, 8192)
     pseudo = source + destination + b"\0\x06" + struct.pack(">H", 20 + len(options) + len(payload))
     behind = b"\0\0" + options + payload
     return front + struct.pack(">H", checksum(pseudo + front + b"\0\0" + behind)) + behind
 
 
-def frame(rng):
+def frame(rng, conversations):
     hardware = b"\2" + rng.randbytes(5) + b"\2" + rng.randbytes(5)
     kind = rng.randrange(20)
-    source, destination = addresses(rng)
+    source, destination, ports = rng.choice(conversations)
     payload = rng.randbytes(rng.choice([0, 1, 12, 64, 200, 512, 1200]))
     if kind == 0:
         arp = struct.pack(">HHBBH", 1, 0x0800, 6, 4, 1) + hardware[6:] + source + bytes(6) + destination
@@ -71,9 +75,9 @@ def frame(rng):
     elif kind == 3:
         whole = ipv4(rng, 1, source, destination, payload, options=b"\x94\x04\0\0")
     elif kind < 9:
-        whole = ipv4(rng, 17, source, destination, udp(rng, source, destination, payload))
+        whole = ipv4(rng, 17, source, destination, udp(rng, source, destination, ports, payload))
     else:
-        whole = ipv4(rng, 6, source, destination, tcp(rng, source, destination, payload))
+        whole = ipv4(rng, 6, source, destination, tcp(rng, source, destination, ports, payload))
     return hardware + b"\x08\0" + whole + bytes(max(0, 46 - len(whole)))
 
 
@@ -82,7 +86,8 @@ def main():
         sys.exit(__doc__)
     count = int(sys.argv[2]) if len(sys.argv) == 3 else 1_000_000
     rng = random.Random(1)
-    pool = [frame(rng) for _ in range(min(POOL, count))]
+    conversations = [conversation(rng) for _ in range(CONVERSATIONS)]
+    pool = [frame(rng, conversations) for _ in range(min(POOL, count))]
     with open(sys.argv[1], "wb", buffering=1 << 20) as out:
         out.write(struct.pack("<IHHIIII", 0xA1B2C3D4, 2, 4, 0, 0, 262144, LINK_ETHERNET))
         for number in range(count):
