@@ -99,9 +99,13 @@ fn an_arp_packet_is_refused_at_its_first_wrong_field(rt: HostRuntime) -> Result<
 }
 
 #[test]
-fn ipv4_is_not_read_yet(rt: HostRuntime) -> Result<(), Fail> {
-    let frame = b"\x02\x00\x00\x00\x00\xaa\x02\x00\x00\x00\x00\xbb\x08\x00\x45";
+fn a_datagram_is_told_and_a_cut_one_refused(rt: HostRuntime) -> Result<(), Fail> {
+    let frame =
+        b"\x02\x00\x00\x00\x00\xaa\x02\x00\x00\x00\x00\xbb\x08\x00\x45\x00\x00\x1c\x00\x00\x00\x00\x40\x11\x66\xcf\x0a\x00\x00\x01\x0a\x00\x00\x02\x00\x01\x00\x02\x00\x08\xeb\xd8";
     let told = end_of(rt.alloc(), &["frame"], World::of(frame))?;
-    expect_end(&rt, &told, 3, 12, b"");
+    let line = b"ok eth 0200000000aa 0200000000bb ip4 0 0 .. 0 64 10.0.0.1 10.0.0.2 - udp 1 2 -\n";
+    expect_end(&rt, &told, 0, 0, line);
+    let told = end_of(rt.alloc(), &["frame"], World::of(&frame[..15]))?;
+    expect_end(&rt, &told, 1, 0, b"refused ipv4.tos 15\n");
     Ok(())
 }
