@@ -2,6 +2,7 @@
 #![tactic(auto, unfolding(crate::specs::Seq::seq, crate::specs::Seq::seq_tail, crate::specs::Named::named, crate::specs::Strip::stripped, crate::specs::Union::united, crate::specs::Whole::as_whole, narc_scalar::specs::Word::word, narc_list::specs::Bytes::all_octets, narc_bits::specs::Bits::bits_of_number, narc_bits::specs::Bits::bits))]
 
 ghost use Rattle.std.specs.Prelude.{◌≤◌};
+ghost use Rattle.narc_format.specs.declared.field.TheConstants.{COUNT};
 
 mod calls;
 mod lists;
@@ -18,7 +19,7 @@ use samples::{Datagram, Halves, Kinded, KindedTail, Octets, Ports, Spare, SpareT
 
 /// A fault of the field with this number.
 fn fault(field: u8, at: u64) -> Fault
-    requires { field ≤ 30 }
+    requires { field ≤ COUNT }
 {
     Fault {
         field: Field::of(field).unwrap(),

@@ -6,24 +6,9 @@ use narc_bits::{Cursor, Input, MAX_FRAME, Writer};
 use narc_compose::{Named, NoContext, Seq, Strip};
 use narc_format::{Format, Front, field, read_front};
 use narc_packet::Arp;
+use narc_samples::{ARP_REQUEST, are_one};
 use narc_scalar::{Const, Octets4, Octets6, Word};
 use std::marker::PhantomData;
-
-/// The octets of an ARP request.
-const REQUEST: [u8; 28] = [
-    0, 1, // hardware: Ethernet
-    8, 0, // protocol: IPv4
-    6, // size of a hardware address
-    4, // size of a protocol address
-    0, 1, // operation: request
-    2, 0, 0, 0, 0, 0xbb, // hardware address of the sender
-    10, 0, 0, 1, // protocol address of the sender
-    0, 0, 0, 0, 0, 0, // hardware address of the target
-    10, 0, 0, 2, // protocol address of the target
-];
-
-/// Both are of one type.
-fn are_one<T>(_alias: PhantomData<T>, _written: PhantomData<T>) {}
 
 /// How many bits the value has by F, which are then at the front of the room.
 fn write<I: Input, F: Format<I, Ctx = ()>>(value: &F::Value, room: &mut [u8]) -> usize
@@ -112,9 +97,9 @@ fn an_arp_packet_is_read_and_written(rt: HostRuntime) {
     };
     let mut room = [0xff; 28];
     assert!(rt; write::<Cursor<'_>, ArpFormat>(&arp, &mut room) == 8 * 28);
-    assert!(rt; room == REQUEST);
+    assert!(rt; room[..] == ARP_REQUEST[14..42]);
     assert!(rt;
-        read_front::<ArpFormat>((), &REQUEST)
+        read_front::<ArpFormat>((), &ARP_REQUEST[14..42])
             == Ok(Front {
                 value: arp,
                 bits: 8 * 28
@@ -122,22 +107,15 @@ fn an_arp_packet_is_read_and_written(rt: HostRuntime) {
     );
 }
 
-/// The header of a frame with an ARP packet.
-const HEADER: [u8; 14] = [
-    2, 0, 0, 0, 0, 0xaa, // destination
-    2, 0, 0, 0, 0, 0xbb, // source
-    8, 6, // type: ARP
-];
-
 #[test]
 fn a_header_is_read_and_written(rt: HostRuntime) {
     eth_head_is_sound();
     let header = ([2, 0, 0, 0, 0, 0xaa], ([2, 0, 0, 0, 0, 0xbb], 0x0806));
     let mut room = [0xff; 14];
     assert!(rt; write::<Cursor<'_>, EthHead>(&header, &mut room) == 8 * 14);
-    assert!(rt; room == HEADER);
+    assert!(rt; room[..] == ARP_REQUEST[..14]);
     assert!(rt;
-        read_front::<EthHead>((), &HEADER)
+        read_front::<EthHead>((), &ARP_REQUEST[..14])
             == Ok(Front {
                 value: header,
                 bits: 8 * 14
@@ -148,7 +126,7 @@ fn a_header_is_read_and_written(rt: HostRuntime) {
 #[test]
 fn a_header_is_refused_at_the_field_that_is_cut_off(rt: HostRuntime) {
     eth_head_is_sound();
-    match read_front::<EthHead>((), &HEADER[..13]) {
+    match read_front::<EthHead>((), &ARP_REQUEST[..13]) {
         Err(fault) => {
             assert!(rt; fault.field.number() == field::ETHERNET_TYPE);
             assert!(rt; fault.at == 8 * 12);

@@ -1,5 +1,5 @@
 //! An option, as IPv4 and TCP headers have it.
-ghost use Rattle.std.specs.Prelude.{◌≡◌, ℕ, ◌-◌, ◌<◌, ◌^◌};
+ghost use Rattle.std.specs.Prelude.{◌-◌, ◌<◌, ◌^◌};
 ghost use Rattle.narc_options.specs.Option.{is_kind, is_option_length, by_kind};
 
 use narc_compose::{Carry, Either, Measure, Measured, Pick, Seq, Union};

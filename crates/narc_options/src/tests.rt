@@ -1,20 +1,18 @@
 //! Options and their areas, written out, read, refused and written.
-ghost use Rattle.std.specs.Prelude.{◌≡◌, ◌*◌, ◌%◌, ◌≤◌, length};
+ghost use Rattle.std.specs.Prelude.{◌≡◌, ◌*◌, ◌≤◌, length};
 
 use crate::{
-    AnyOctets, ByKind, ContextOctets, DataOf, IsKind, IsOptionLength, KindOf, OptionArea,
-    OptionFields, OptionRegion, RawOption,
+    AnyOctets, ByKind, ContextOctets, DataOf, IsKind, IsOptionLength, KindOf, OptionFields,
+    OptionRegion, RawOption,
 };
-use narc_bits::{Cursor, Input, Steps, Writer};
+use narc_bits::{Cursor, Input, MAX_FRAME, Steps, Writer};
 use narc_compose::{Either, Measured, Seq, Union};
-use narc_format::{Fault, Format, Tail};
+use narc_format::{Fault, Format};
 use narc_list::{Bytes, Pad, Region, Until};
+use narc_samples::are_one;
 use narc_scalar::{Where, Word};
 use std::marker::{Brand, PhantomData};
 use std::sync::ledger::{Blank, Ledger};
-
-/// Both are of one type.
-fn are_one<T>(_alias: PhantomData<T>, _written: PhantomData<T>) {}
 
 fn read_counted<I: Input, F: Format<I>, L: Ledger>(
     ctx: F::Ctx,
@@ -43,7 +41,7 @@ fn read<I: Input, F: Format<I>>(ctx: F::Ctx, input: &mut I) -> Result<F::Value, 
 fn write<I: Input, F: Format<I>>(ctx: F::Ctx, value: &F::Value, room: &mut [u8]) -> usize
     requires sound { F.meaning.sound }
     requires admitted { F.meaning.admits ctx value.now }
-    requires small { length room.old ≤ 262144 }
+    requires small { length room.old ≤ MAX_FRAME }
     requires enough { length (F.meaning.spelling ctx value.now) ≤ 8 * length room.old }
 {
     let mut writer = Writer::new();
@@ -53,21 +51,21 @@ fn write<I: Input, F: Format<I>>(ctx: F::Ctx, value: &F::Value, room: &mut [u8])
 
 /// The option that the octets begin with.
 fn read_option<'a>(octets: &'a [u8]) -> Result<RawOption<'a>, Fault>
-    requires { length octets.now ≤ 262144 }
+    requires { length octets.now ≤ MAX_FRAME }
 {
     read::<Cursor<'a>, OptionFields>((), &mut Cursor::new(octets))
 }
 
 /// The options in an area of so many octets.
 fn read_area<'a>(count: usize, octets: &'a [u8]) -> Result<&'a [u8], Fault>
-    requires { length octets.now ≤ 262144 }
+    requires { length octets.now ≤ MAX_FRAME }
 {
     read::<Cursor<'a>, OptionRegion<'a>>(count, &mut Cursor::new(octets))
 }
 
 /// The place of the unnamed fault that the octets are refused with as an area.
 fn refused_at(octets: &[u8]) -> Option<u64>
-    requires { length octets.now ≤ 262144 }
+    requires { length octets.now ≤ MAX_FRAME }
 {
     match read_area(octets.len(), octets) {
         Ok(_) => None,
