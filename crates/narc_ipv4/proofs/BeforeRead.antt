@@ -6,7 +6,8 @@ use Rattle.narc_scalar.specs.Word.{word}
 use Rattle.narc_format.specs.Rows.{Row, row}
 use Rattle.narc_compose.specs.Both.{both}
 use Rattle.narc_ipv4.specs.Header.{is_total_length, is_flags, header_length_of, RawMiddle, RawBefore, first_octet, ip_service, ip_lengths, ip_fragment, ip_middle, ip_before}
-use Rattle.narc_layout.proofs.ReadLayout.{IsRead, Parts, read_layout, seq_read}
+use Rattle.narc_layout.proofs.ReadLayout.{IsRead, Parts, read_layout}
+use Rattle.narc_layout.proofs.SeqRead.{seq_read}
 use Rattle.narc_layout.proofs.FieldLayout.{unnamed_layout, named_layout}
 use Rattle.narc_layout.proofs.TestLayout.{shape_word, unnamed_word, shape_tested, unnamed_tested}
 use Rattle.narc_ipv4.proofs.FirstOctet.{IsFirst, first_rows, first_octet_read}

@@ -17,7 +17,8 @@ use Rattle.narc_ipv4.specs.Header.{area_length_of, RawBefore, RawBehind, RawHead
 use Rattle.narc_layout.proofs.ContextLayouts.{IsShaped}
 use Rattle.narc_layout.proofs.FieldLayout.{IsUnnamed, unnamed_layout}
 use Rattle.narc_layout.proofs.TestLayout.{unnamed_word}
-use Rattle.narc_layout.proofs.ReadLayout.{Parts, IsRead, read_layout, seq_read}
+use Rattle.narc_layout.proofs.ReadLayout.{Parts, IsRead, read_layout}
+use Rattle.narc_layout.proofs.SeqRead.{seq_read}
 use Rattle.narc_layout.proofs.RuleReads.{region_read, checked_read}
 use Rattle.narc_layout.proofs.ViewReads.{gap_read, rename, named_read, stripped_read}
 use Rattle.narc_ipv4.proofs.BeforeRead.{IsBefore, before_rows, before_read}

@@ -1,12 +1,13 @@
 //! The header of an IPv4 packet, written out, read, refused and written.
 ghost use Rattle.std.specs.Prelude.{◌≡◌, ◌*◌, ◌<◌, ◌≤◌, length};
+ghost use Rattle.narc_format.specs.declared.field.TheConstants.{COUNT};
 
 use crate::header::IpArea;
 use crate::{
     AreaOf, AsHeader, InFront, IpHead, IpHeader, IsFlags, IsHeaderLength, IsTotalLength, IsVersion,
     LengthsIn, OfArea,
 };
-use narc_bits::{Cursor, Input, Steps, Writer};
+use narc_bits::{Cursor, Input, MAX_FRAME, Steps, Writer};
 use narc_compose::{Gap, Named, NoContext, Seq, Strip};
 use narc_format::field::{
     IPV4_CHECKSUM, IPV4_FLAGS, IPV4_HEADER_LENGTH, IPV4_OPTIONS, IPV4_TOS, IPV4_TOTAL_LENGTH,
@@ -16,6 +17,7 @@ use narc_format::{Fault, Field, Format};
 use narc_list::{Region, Until};
 use narc_options::{ContextOctets, OptionFields};
 use narc_packet::IpOptions;
+use narc_samples::are_one;
 use narc_scalar::{Octets4, Where, Word};
 use narc_sum::{Checked, NoPseudo};
 use std::marker::{Brand, PhantomData};
@@ -49,9 +51,6 @@ const NO_SUM: [u8; 20] = [
     10, 0, 0, 2, // destination
 ];
 
-/// Both are of one type.
-fn are_one<T>(_alias: PhantomData<T>, _written: PhantomData<T>) {}
-
 fn read_counted<I: Input, F: Format<I>, L: Ledger>(
     ctx: F::Ctx,
     input: &mut I,
@@ -77,7 +76,7 @@ fn read<I: Input, F: Format<I>>(ctx: F::Ctx, input: &mut I) -> Result<F::Value, 
 
 /// The header that the octets begin with, where so many are there.
 fn read_head<'a>(there: usize, octets: &'a [u8]) -> Result<IpHeader<'a>, Fault>
-    requires small { length octets.now ≤ 262144 }
+    requires small { length octets.now ≤ MAX_FRAME }
 {
     read::<Cursor<'a>, IpHead<'a>>(there, &mut Cursor::new(octets))
 }
@@ -86,7 +85,7 @@ fn read_head<'a>(there: usize, octets: &'a [u8]) -> Result<IpHeader<'a>, Fault>
 fn write<I: Input, F: Format<I>>(ctx: F::Ctx, value: &F::Value, room: &mut [u8]) -> usize
     requires sound { F.meaning.sound }
     requires admitted { F.meaning.admits ctx value.now }
-    requires small { length room.old ≤ 262144 }
+    requires small { length room.old ≤ MAX_FRAME }
     requires enough { length (F.meaning.spelling ctx value.now) ≤ 8 * length room.old }
 {
     let mut writer = Writer::new();
@@ -96,9 +95,9 @@ fn write<I: Input, F: Format<I>>(ctx: F::Ctx, value: &F::Value, room: &mut [u8])
 
 /// The field with this number is refused, at this octet.
 fn refuses(octets: &[u8], field: u8, at: u64) -> bool
-    requires small { length octets.now ≤ 262144 }
-    requires known { field ≤ 30 }
-    requires near { at ≤ 262144 }
+    requires small { length octets.now ≤ MAX_FRAME }
+    requires known { field ≤ COUNT }
+    requires near { at ≤ MAX_FRAME }
 {
     read_head(octets.len(), octets)
         == Err(Fault {

@@ -22,7 +22,7 @@ use Rattle.narc_layout.proofs.NetworkOrder.{number_of-big_endian}
 use Rattle.narc_layout.proofs.PlainRead.{plain_read}
 use Rattle.narc_layout.proofs.ReadLayout.{Parts, IsTailRead}
 use Rattle.narc_layout.proofs.RowSteps.{rows_same, no_more_rows}
-use Rattle.narc_layout.proofs.TailReadLayout.{seq_tail_read}
+use Rattle.narc_layout.proofs.SeqTailRead.{seq_tail_read}
 use Rattle.narc_layout.proofs.UnionRead.{member_rows, united_read}
 use Rattle.narc_layout.proofs.ViewReads.{stripped_tail_read, all_octets_read, padding_read}
 use Rattle.narc_stack.specs.RawFrame.{RawBody, RawFrame, packet_of, raw_frame, SamePacket}

@@ -7,7 +7,7 @@ use Rattle.narc_format.specs.Rows.{Row, row, first_failing}
 use Rattle.narc_packet.specs.Refusal.{header_length, total_length, content_in, ipv4_rows, content_rows}
 use Rattle.narc_packet.specs.declared.packet.Ipv4.{Ipv4}
 use Rattle.narc_layout.proofs.ReadLayout.{Parts, Front, IsTailRead}
-use Rattle.narc_layout.proofs.TailReadLayout.{seq_tail_read}
+use Rattle.narc_layout.proofs.SeqTailRead.{seq_tail_read}
 use Rattle.narc_layout.proofs.RuleReads.{region_read}
 use Rattle.narc_layout.proofs.RowSteps.{rows_same, no_more_rows}
 use Rattle.narc_layout.proofs.SameRows.{row_passes}

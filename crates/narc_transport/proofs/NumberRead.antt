@@ -7,7 +7,8 @@ use Rattle.narc_compose.specs.Named.{named}
 use Rattle.narc_compose.specs.Both.{both}
 use Rattle.narc_layout.proofs.FieldLayout.{named_layout, unnamed_layout}
 use Rattle.narc_layout.proofs.TestLayout.{shape_word, unnamed_word}
-use Rattle.narc_layout.proofs.ReadLayout.{Parts, IsRead, read_layout, seq_read}
+use Rattle.narc_layout.proofs.ReadLayout.{Parts, IsRead, read_layout}
+use Rattle.narc_layout.proofs.SeqRead.{seq_read}
 
 -- a number of k octets
 abbrev pub IsNumber : (k : ℕ) → ℕ → List ℕ → Type 0

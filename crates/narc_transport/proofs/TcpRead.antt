@@ -9,8 +9,9 @@ use Rattle.narc_compose.specs.Gap.{gapped}
 use Rattle.narc_layout.proofs.NetworkOrder.{number_of-big_endian}
 use Rattle.narc_layout.proofs.FieldLayout.{named_layout}
 use Rattle.narc_layout.proofs.TestLayout.{shape_word, unnamed_word, shape_tested, unnamed_tested}
-use Rattle.narc_layout.proofs.ReadLayout.{Parts, IsRead, IsTailRead, read_layout, seq_read}
-use Rattle.narc_layout.proofs.TailReadLayout.{seq_tail_read}
+use Rattle.narc_layout.proofs.ReadLayout.{Parts, IsRead, IsTailRead, read_layout}
+use Rattle.narc_layout.proofs.SeqRead.{seq_read}
+use Rattle.narc_layout.proofs.SeqTailRead.{seq_tail_read}
 use Rattle.narc_layout.proofs.RuleReads.{region_read}
 use Rattle.narc_layout.proofs.SumReads.{is_short_and_good, checked_tail_read}
 use Rattle.narc_layout.proofs.ViewReads.{gap_read, rename, named_read, named_tail_read, stripped_tail_read, all_octets_read}

@@ -11,6 +11,9 @@ use narc_format::{Fault, Tail};
 use narc_packet::Udp;
 use std::sync::ledger::Ledger;
 
+/// The tail that `UdpPart` hands on to.
+pub(crate) type UdpPartTail = UdpFormat;
+
 /// `UdpFormat` by its calls.
 pub struct UdpPart;
 
@@ -27,21 +30,24 @@ impl<'a> Part<Cursor<'a>> for UdpPart {
         cursor: &mut Cursor<'a>,
         steps: &mut Steps<L>,
     ) -> Result<Udp<'a>, Fault> {
-        <UdpFormat as Tail<Cursor<'a>>>::read(ctx, cursor, steps)
+        <UdpPartTail as Tail<Cursor<'a>>>::read(ctx, cursor, steps)
     }
 
     #[tactic(auto, unfolding(crate::specs::Parts::udp_part))]
     fn size(ctx: (Ends, usize), value: &Udp<'a>) -> usize {
-        <UdpFormat as Tail<Cursor<'a>>>::size(ctx, value)
+        <UdpPartTail as Tail<Cursor<'a>>>::size(ctx, value)
     }
 
     #[tactic(auto, unfolding(crate::specs::Parts::udp_part))]
     fn write(ctx: (Ends, usize), value: &Udp<'a>, room: &mut [u8], writer: &mut Writer) {
-        <UdpFormat as Tail<Cursor<'a>>>::write(ctx, value, room, writer)
+        <UdpPartTail as Tail<Cursor<'a>>>::write(ctx, value, room, writer)
     }
 
     ghost laws = { udp_part_laws };
 }
+
+/// The tail that `TcpPart` hands on to.
+pub(crate) type TcpPartTail<'a> = TcpFormat<'a>;
 
 /// `TcpFormat` by its calls.
 pub struct TcpPart;
@@ -59,17 +65,17 @@ impl<'a> Part<Cursor<'a>> for TcpPart {
         cursor: &mut Cursor<'a>,
         steps: &mut Steps<L>,
     ) -> Result<TcpWithOffset<'a>, Fault> {
-        <TcpFormat<'a> as Tail<Cursor<'a>>>::read(ctx, cursor, steps)
+        <TcpPartTail<'a> as Tail<Cursor<'a>>>::read(ctx, cursor, steps)
     }
 
     #[tactic(auto, unfolding(crate::specs::Parts::tcp_part))]
     fn size(ctx: (Ends, usize), value: &TcpWithOffset<'a>) -> usize {
-        <TcpFormat<'a> as Tail<Cursor<'a>>>::size(ctx, value)
+        <TcpPartTail<'a> as Tail<Cursor<'a>>>::size(ctx, value)
     }
 
     #[tactic(auto, unfolding(crate::specs::Parts::tcp_part))]
     fn write(ctx: (Ends, usize), value: &TcpWithOffset<'a>, room: &mut [u8], writer: &mut Writer) {
-        <TcpFormat<'a> as Tail<Cursor<'a>>>::write(ctx, value, room, writer)
+        <TcpPartTail<'a> as Tail<Cursor<'a>>>::write(ctx, value, room, writer)
     }
 
     ghost laws = { tcp_part_laws };

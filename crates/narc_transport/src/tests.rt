@@ -1,5 +1,6 @@
 //! Datagrams and segments read and written at their types.
 ghost use Rattle.std.specs.Prelude.{◌≡◌, ◌+◌, ◌*◌, ◌≤◌, length};
+ghost use Rattle.narc_format.specs.declared.field.TheConstants.{COUNT};
 ghost use Rattle.narc_packet.specs.PacketView.{udp_view};
 ghost use Rattle.narc_transport.specs.Written.{FitsUdp, FitsTcp};
 
@@ -8,10 +9,11 @@ mod options;
 mod segments;
 
 use crate::{Ends, TcpPart, TcpWithOffset, UdpPart};
-use narc_bits::{Cursor, Input, Steps, Writer};
+use narc_bits::{Cursor, Input, MAX_FRAME, Steps, Writer};
 use narc_compose::Parted;
 use narc_format::{Fault, Field, Tail};
 use narc_packet::Udp;
+use narc_sum::MAX_CHECKED;
 use std::marker::{Brand, PhantomData};
 use std::sync::ledger::{Blank, Ledger};
 
@@ -20,9 +22,6 @@ const ENDS: Ends = Ends {
     src: [10, 0, 0, 1],
     dst: [10, 0, 0, 2],
 };
-
-/// Both are of one type.
-fn are_one<T>(_alias: PhantomData<T>, _written: PhantomData<T>) {}
 
 fn read_counted<I: Input, F: Tail<I, Ctx = (Ends, usize)>, L: Ledger>(
     there: usize,
@@ -52,8 +51,8 @@ fn read<I: Input, F: Tail<I, Ctx = (Ends, usize)>>(
 
 /// The fault at this octet of the field with this number.
 fn fault(field: u8, octet: u64) -> Fault
-    requires known { field ≤ 30 }
-    requires near { octet ≤ 65535 }
+    requires known { field ≤ COUNT }
+    requires near { octet ≤ MAX_CHECKED }
 {
     Fault {
         field: Field::of(field).unwrap(),
@@ -65,7 +64,7 @@ fn fault(field: u8, octet: u64) -> Fault
 fn write<I: Input, F: Tail<I, Ctx = (Ends, usize)>>(value: &F::Value, room: &mut [u8])
     requires sound { F.meaning.sound }
     requires admitted { F.meaning.admits (ENDS, length room.old) value.now }
-    requires small { length room.old ≤ 262144 }
+    requires small { length room.old ≤ MAX_FRAME }
     requires enough { length (F.meaning.spelling (ENDS, length room.old) value.now) ≤ 8 * length room.old }
 {
     let mut writer = Writer::new();
@@ -74,7 +73,7 @@ fn write<I: Input, F: Tail<I, Ctx = (Ends, usize)>>(value: &F::Value, room: &mut
 
 /// The datagram that these octets are.
 fn read_datagram(octets: &[u8]) -> Result<Udp<'_>, Fault>
-    requires { length octets.now ≤ 65535 }
+    requires { length octets.now ≤ MAX_CHECKED }
 {
     let mut cursor = Cursor::new(octets);
     read::<Cursor<'_>, Parted<UdpPart>>(octets.len(), &mut cursor)
@@ -83,14 +82,14 @@ fn read_datagram(octets: &[u8]) -> Result<Udp<'_>, Fault>
 /// Writes a datagram, alone.
 fn write_datagram(udp: &Udp<'_>, room: &mut [u8])
     requires fits { FitsUdp (length room.old) (udp_view udp.now) }
-    requires small { length room.old ≤ 65535 }
+    requires small { length room.old ≤ MAX_CHECKED }
 {
     write::<Cursor<'_>, Parted<UdpPart>>(udp, room)
 }
 
 /// The segment that these octets are.
 fn read_segment(octets: &[u8]) -> Result<TcpWithOffset<'_>, Fault>
-    requires { length octets.now ≤ 65535 }
+    requires { length octets.now ≤ MAX_CHECKED }
 {
     let mut cursor = Cursor::new(octets);
     read::<Cursor<'_>, Parted<TcpPart>>(octets.len(), &mut cursor)

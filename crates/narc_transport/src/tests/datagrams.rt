@@ -1,14 +1,21 @@
 //! UDP datagrams.
-use super::{are_one, fault, read_datagram, write_datagram};
+use super::{fault, read_datagram, write_datagram};
+use crate::parts::UdpPartTail;
 use crate::{AsUdp, ForSecond, IsUdpLength, PayloadOf, Surplus, UdpFormat, UdpPseudo};
 use narc_compose::{Gap, Measured, Named, NoContext, Seq, SeqTail, Strip};
 use narc_format::field::{UDP_CHECKSUM, UDP_DESTINATION, UDP_LENGTH, UDP_SOURCE};
 use narc_list::{Bytes, Pad, Region};
 use narc_options::{AnyOctets, ContextOctets};
 use narc_packet::Udp;
+use narc_samples::{DATAGRAM, ODD_DATAGRAM, are_one};
 use narc_scalar::{Where, Word};
 use narc_sum::CheckedOrNone;
 use std::marker::PhantomData;
+
+#[test]
+fn a_part_hands_on_to_datagrams(_rt: HostRuntime) {
+    are_one(PhantomData::<UdpPartTail>, PhantomData::<UdpFormat>);
+}
 
 #[test]
 fn a_datagram_is_these_fields_in_order(_rt: HostRuntime) {
@@ -43,15 +50,12 @@ fn a_datagram_is_these_fields_in_order(_rt: HostRuntime) {
     );
 }
 
-/// A datagram with an odd payload, and a good checksum.
-const ODD: [u8; 9] = [0, 1, 0, 2, 0, 9, 0xec, 0xd5, 0xff];
-
 /// A datagram without a payload, whose checksum computes to 0 and is all ones.
 const FULL: [u8; 8] = [0xeb, 0xd9, 0, 2, 0, 8, 0xff, 0xff];
 
 #[test]
 fn a_datagram_is_read_and_written(rt: HostRuntime) {
-    match read_datagram(&ODD) {
+    match read_datagram(&ODD_DATAGRAM[34..]) {
         Ok(udp) => {
             assert!(rt; udp.sport == 1);
             assert!(rt; udp.dport == 2);
@@ -66,14 +70,14 @@ fn a_datagram_is_read_and_written(rt: HostRuntime) {
     };
     let mut room = [0xaa; 9];
     write_datagram(&udp, &mut room);
-    assert!(rt; room == ODD);
+    assert!(rt; room[..] == ODD_DATAGRAM[34..]);
 }
 
 #[test]
 fn a_length_has_the_header_and_what_is_there(rt: HostRuntime) {
     let below = read_datagram(&[0, 1, 0, 2, 0, 7, 0, 0]);
     assert!(rt; below.err() == Some(fault(UDP_LENGTH, 4)));
-    let header = read_datagram(&[0, 1, 0, 2, 0, 8, 0xeb, 0xd8]);
+    let header = read_datagram(&DATAGRAM[34..]);
     assert!(rt; header.is_ok_and(|udp| udp.payload.is_empty()));
     let above = read_datagram(&[0, 1, 0, 2, 0, 9, 0, 0]);
     assert!(rt; above.err() == Some(fault(UDP_LENGTH, 4)));

@@ -3,14 +3,14 @@ ghost use Rattle.std.specs.Prelude.{◌≡◌, ◌*◌, ◌≤◌, length};
 ghost use Rattle.narc_packet.specs.Options.{IsTcpOption, tcp_option};
 ghost use Rattle.narc_packet.specs.PacketView.{tcp_option_view};
 
-use super::are_one;
 use crate::{AsTcpOption, ByLength, ByTcpKind, LengthOf, TcpOptionFormat};
-use narc_bits::{Cursor, Input, Steps, Writer};
+use narc_bits::{Cursor, Input, MAX_FRAME, Steps, Writer};
 use narc_compose::{Measured, Seq, Strip, Union};
 use narc_format::{Fault, Format};
 use narc_list::{Bytes, Pad, Region};
 use narc_options::{AnyOctets, ContextOctets, IsKind, IsOptionLength, KindOf};
 use narc_packet::TcpOption;
+use narc_samples::are_one;
 use narc_scalar::{Where, Word};
 use std::marker::{Brand, PhantomData};
 use std::sync::ledger::{Blank, Ledger};
@@ -62,7 +62,7 @@ fn read<I: Input, F: Format<I, Ctx = ()>>(input: &mut I) -> Result<F::Value, Fau
 fn write<I: Input, F: Format<I, Ctx = ()>>(value: &F::Value, room: &mut [u8])
     requires sound { F.meaning.sound }
     requires admitted { F.meaning.admits tt value.now }
-    requires small { length room.old ≤ 262144 }
+    requires small { length room.old ≤ MAX_FRAME }
     requires enough { length (F.meaning.spelling tt value.now) ≤ 8 * length room.old }
 {
     let mut writer = Writer::new();
@@ -71,7 +71,7 @@ fn write<I: Input, F: Format<I, Ctx = ()>>(value: &F::Value, room: &mut [u8])
 
 /// The option that these octets begin with.
 fn read_option(octets: &[u8]) -> Result<TcpOption<'_>, Fault>
-    requires { length octets.now ≤ 262144 }
+    requires { length octets.now ≤ MAX_FRAME }
 {
     let mut cursor = Cursor::new(octets);
     read::<Cursor<'_>, TcpOptionFormat>(&mut cursor)
@@ -81,7 +81,7 @@ fn read_option(octets: &[u8]) -> Result<TcpOption<'_>, Fault>
 fn write_option(option: &TcpOption<'_>, room: &mut [u8])
     requires is { IsTcpOption (tcp_option_view option.now) }
     requires enough { length (tcp_option (tcp_option_view option.now)) ≤ length room.old }
-    requires small { length room.old ≤ 262144 }
+    requires small { length room.old ≤ MAX_FRAME }
 {
     write::<Cursor<'_>, TcpOptionFormat>(option, room)
 }

@@ -1,5 +1,6 @@
 //! TCP segments.
-use super::{are_one, fault, read_segment, write_segment};
+use super::{fault, read_segment, write_segment};
+use crate::parts::TcpPartTail;
 use crate::{
     AreaBehind, AsTcp, ForFirst, ForSecond, IsOffset, TcpFormat, TcpPseudo, TcpWithOffset,
 };
@@ -8,6 +9,7 @@ use narc_format::field::{TCP_CHECKSUM, TCP_OFFSET, TCP_OPTIONS};
 use narc_list::{Bytes, Region, Until};
 use narc_options::{ContextOctets, OptionFields};
 use narc_packet::{Tcp, TcpOptions};
+use narc_samples::{CONNECTION_REQUEST, are_one};
 use narc_scalar::{Where, Word};
 use narc_sum::CheckedTail;
 use std::marker::PhantomData;
@@ -21,6 +23,14 @@ type Ends = Seq<
 type Words = Seq<Named<Where<Word<16>, IsOffset>, 28>, Word<16>, ForFirst>;
 
 type Options<'a> = Region<Until<'a, OptionFields, 40, ContextOctets>, ContextOctets>;
+
+#[test]
+fn a_part_hands_on_to_segments(_rt: HostRuntime) {
+    are_one(
+        PhantomData::<TcpPartTail<'static>>,
+        PhantomData::<TcpFormat<'static>>,
+    );
+}
 
 #[test]
 fn a_segment_is_these_fields_in_order(_rt: HostRuntime) {
@@ -92,24 +102,26 @@ fn a_segment_is_read_and_written(rt: HostRuntime) {
     assert!(rt; room == SEGMENT);
 }
 
-/// A connection request with a maximum segment size.
-const REQUEST: [u8; 24] = [
-    4, 1, 0, 0x50, 0, 0, 0, 1, 0, 0, 0, 0, 0x60, 2, 0x20, 0, 0x5f, 0xd2, 0, 0, 2, 4, 5, 0xb4,
-];
+/// The segment of a connection request.
+fn request() -> [u8; 24] {
+    let mut octets = [0; 24];
+    octets.copy_from_slice(&CONNECTION_REQUEST[34..58]);
+    octets
+}
 
 /// The request with this first octet of the word of the offset.
 fn with_offset(octet: u8) -> [u8; 24] {
-    let mut octets = REQUEST;
+    let mut octets = request();
     octets[12] = octet;
     octets
 }
 
 #[test]
 fn an_offset_has_the_header_and_what_is_there(rt: HostRuntime) {
-    assert!(rt; read_segment(&REQUEST).is_ok());
+    assert!(rt; read_segment(&request()).is_ok());
     assert!(rt; read_segment(&with_offset(0x40)).err() == Some(fault(TCP_OFFSET, 12)));
     assert!(rt; read_segment(&with_offset(0x70)).err() == Some(fault(TCP_OFFSET, 12)));
-    assert!(rt; read_segment(&REQUEST[..13]).err() == Some(fault(TCP_OFFSET, 12)));
+    assert!(rt; read_segment(&request()[..13]).err() == Some(fault(TCP_OFFSET, 12)));
 }
 
 #[test]
@@ -142,7 +154,7 @@ fn what_is_behind_the_end_of_the_options_is_free(rt: HostRuntime) {
 
 #[test]
 fn a_bad_option_is_refused_at_its_first_octet(rt: HostRuntime) {
-    let mut octets = REQUEST;
+    let mut octets = request();
     octets[20..].copy_from_slice(&[1, 1, 1, 0x44]);
     assert!(rt; read_segment(&octets).err() == Some(fault(TCP_OPTIONS, 23)));
 }

@@ -1,29 +1,26 @@
--- A tail behind a format, by the octets that stand for its values. (General: for a crate below.)
-use Rattle.std.proofs.Common.{◌≡◌, ℕ, ◌+◌, ◌*◌, ◌-◌, ◌<◌, ◌≤◌, ◌↔◌, ◌⊎◌, Bool, true, false, List, [], ◌∷◌, ◌++◌, length, take, drop, Option, Some, None, refl, sym, ap, ◌∙◌, subst, append_assoc, arith, inl, inr, length-append}
+-- What stands behind a format, a second one or a tail, by the octets that stand for their values.
+use Rattle.std.proofs.Common.{◌≡◌, ℕ, ◌+◌, ◌*◌, ◌-◌, ◌≤◌, ◌↔◌, ◌⊎◌, Bool, List, ◌++◌, length, drop, Some, None, refl, sym, ap, ◌∙◌, subst, arith, inl, inr}
 use Rattle.std.proofs.lemmas.List.{drop_at}
 use Rattle.narc_bits.specs.Octets.{IsOctets}
 use Rattle.narc_bits.specs.Bits.{bits}
 use Rattle.narc_bits.proofs.Numbers.{length-bits, bits-append}
 use Rattle.narc_bits.proofs.Octets.{IsOctets-append, IsOctets-front, IsOctets-back, IsOctets-drop}
-use Rattle.narc_format.specs.Faults.{fault_at, later_by}
+use Rattle.narc_format.specs.Faults.{fault_at}
 use Rattle.narc_format.specs.declared.fault.Fault.{Fault}
 use Rattle.narc_format.specs.Meaning.{Meaning}
-use Rattle.narc_compose.specs.Seq.{seq_tail, LaterRefused}
+use Rattle.narc_compose.specs.Seq.{Joined, LaterRefused}
 use Rattle.narc_format.specs.Rows.{Row, RefusalView, first_failing}
 use Rattle.narc_layout.specs.FirstFault.{IsFirstFault}
-use Rattle.narc_layout.proofs.Rows.{Fails, told, judged, first_failing-front, first_failing-back, first_failing-none}
+use Rattle.narc_layout.proofs.Rows.{told, judged, first_failing-front, first_failing-back, first_failing-none}
 use Rattle.narc_layout.proofs.Layouts.{front_octets}
-use Rattle.narc_layout.proofs.ReadLayout.{Spelled, Front, Parts, IsRead, IsTailRead}
+use Rattle.narc_layout.proofs.ReadLayout.{Spelled, Front, Parts, IsRead, IsJudged}
 
--- a tail behind a format
+-- what both have alike
 module _ {C CA CB V W : Type 0} {A : Meaning CA V} {B : Meaning CB W} {IsA : CA → V → List ℕ → Type 0} {IsB : CB → W → List ℕ → Type 0} {size_a : CA → List ℕ → ℕ}
     {rows_a : CA → (start : ℕ) → List ℕ → List Row} {rows_b : CB → (start : ℕ) → List ℕ → List Row}
-    (first : C → CA) (second : C → V → CB) (valid : C → Type 0) (RA : IsRead A IsA size_a rows_a) (RB : IsTailRead B IsB rows_b)
+    (first : C → CA) (second : C → V → CB) (RA : IsRead A IsA size_a rows_a) (RB : IsJudged B IsB rows_b)
     -- the context of the second part, read from the octets
     (context : C → List ℕ → CB) (knows : (c : C) (v : V) (o later : List ℕ) → IsOctets (o ++ later) → IsA (first c) v o → context c (o ++ later) ≡ second c v) where
-  abbrev pair : Meaning C (V × W)
-  pair = seq_tail first second valid A B
-
   abbrev back_of : C → List ℕ → List ℕ
   back_of c x = drop (size_a (first c) x) x
 
@@ -39,8 +36,7 @@ module _ {C CA CB V W : Type 0} {A : Meaning CA V} {B : Meaning CB W} {IsA : CA 
   abbrev rows_both : C → (start : ℕ) → List ℕ → List Row
   rows_both c start x = front_rows c start x ++ back_rows c start x
 
-  stands_both : (c : C) (v : V × W) (b : List Bool) → pair.stands c v b ↔ Spelled (IsBoth c v) b
-  unfolding seq_tail
+  pub stands_both : (c : C) (v : V × W) (b : List Bool) → Joined (A.stands (first c) v.0) (B.stands (second c v.0) v.1) b ↔ Spelled (IsBoth c v) b
   stands_both c v b = (
     λ p.
         let one = (RA.stands (first c) v.0 p.front).0 p.first in
@@ -64,12 +60,12 @@ module _ {C CA CB V W : Type 0} {A : Meaning CA V} {B : Meaning CB W} {IsA : CA 
   )
 
   -- where x begins with the octets of v, v is its value, and the rest is behind
-  record Cut (c : C) (x : List ℕ) (v : V) (front later : List ℕ) : Type 0 where
-    context_is : context c x ≡ second c v
-    size : size_a (first c) x ≡ length front
-    back : back_of c x ≡ later
+  pub record Cut (c : C) (x : List ℕ) (v : V) (front later : List ℕ) : Type 0 where
+    pub context_is : context c x ≡ second c v
+    pub size : size_a (first c) x ≡ length front
+    pub back : back_of c x ≡ later
 
-  cut : (c : C) (x : List ℕ) (v : V) (front later : List ℕ) → IsOctets x → IsA (first c) v front → x ≡ front ++ later → Cut c x v front later
+  pub cut : (c : C) (x : List ℕ) (v : V) (front later : List ℕ) → IsOctets x → IsA (first c) v front → x ≡ front ++ later → Cut c x v front later
   cut c x v front later each is joined =
       let r = RA.reads (first c) v front later (subst IsOctets joined each) is in
       let size : size_a (first c) x ≡ length front = ap (size_a (first c)) joined ∙ r in
@@ -79,33 +75,8 @@ module _ {C CA CB V W : Type 0} {A : Meaning CA V} {B : Meaning CB W} {IsA : CA 
         back = ap (λ k. drop k x) size ∙ ap (drop (length front)) joined ∙ drop_at front later (length front) refl;
       }
 
-  each_back : (c : C) (x : List ℕ) → IsOctets x → IsOctets (back_of c x)
+  pub each_back : (c : C) (x : List ℕ) → IsOctets x → IsOctets (back_of c x)
   each_back c x each = IsOctets-drop (size_a (first c) x) x each
-
-  front_both : (c : C) (x : List ℕ) → IsOctets x → Front (IsA (first c)) x → ((w : W) × IsB (context c x) w (back_of c x)) → ((v : V × W) × IsBoth c v x)
-  front_both c x each p q =
-      let k = cut c x p.found p.front p.later each p.is p.joined in
-      ((p.found, q.0), record { front = p.front; back = back_of c x; joined = p.joined ∙ ap (λ l. p.front ++ l) (sym k.back); first = p.is; second = subst (λ d. IsB d q.0 (back_of c x)) k.context_is q.1 })
-
-  front_first : (c : C) (x : List ℕ) → ((v : V × W) × IsBoth c v x) → Front (IsA (first c)) x
-  front_first c x p = record { found = p.0.0; front = p.1.front; later = p.1.back; is = p.1.first; joined = p.1.joined }
-
-  front_second : (c : C) (x : List ℕ) → IsOctets x → ((v : V × W) × IsBoth c v x) → ((w : W) × IsB (context c x) w (back_of c x))
-  front_second c x each p =
-      let k = cut c x p.0.0 p.1.front p.1.back each p.1.first p.1.joined in
-      let here : IsB (context c x) p.0.1 p.1.back = subst (λ d. IsB d p.0.1 p.1.back) (sym k.context_is) p.1.second in
-      (p.0.1, subst (IsB (context c x) p.0.1) (sym k.back) here)
-
-  passes_both : (c : C) (start : ℕ) (x : List ℕ) → IsOctets x → (first_failing (rows_both c start x) ≡ None) ↔ ((v : V × W) × IsBoth c v x)
-  passes_both c start x each = (
-    λ h.
-        let one = first_failing-none (front_rows c start x) (back_rows c start x) h in
-        let two = sym (first_failing-back (front_rows c start x) (back_rows c start x) one) ∙ h in
-        front_both c x each ((RA.passes (first c) start x each).0 one) ((RB.passes (context c x) (start + size_a (first c) x) (back_of c x) (each_back c x each)).0 two),
-    λ p.
-        first_failing-back (front_rows c start x) (back_rows c start x) ((RA.passes (first c) start x each).1 (front_first c x p))
-        ∙ (RB.passes (context c x) (start + size_a (first c) x) (back_of c x) (each_back c x each)).1 (front_second c x each p),
-  )
 
   refused_later : (c : C) (start : ℕ) (x : List ℕ) → IsOctets x → (f : Fault) → LaterRefused (A.stands (first c)) (λ v. B.refuses (second c v)) (bits x) f → IsFirstFault start (rows_both c start x) f
   refused_later c start x each f p =
@@ -149,8 +120,7 @@ module _ {C CA CB V W : Type 0} {A : Meaning CA V} {B : Meaning CB W} {IsA : CA 
         moved = ap (fault_at f.field) moved;
       }
 
-  refuses_both : (c : C) (start : ℕ) (x : List ℕ) → IsOctets x → (f : Fault) → pair.refuses c (bits x) f ↔ IsFirstFault start (rows_both c start x) f
-  unfolding seq_tail
+  pub refuses_both : (c : C) (start : ℕ) (x : List ℕ) → IsOctets x → (f : Fault) → (A.refuses (first c) (bits x) f ⊎ LaterRefused (A.stands (first c)) (λ v. B.refuses (second c v)) (bits x) f) ↔ IsFirstFault start (rows_both c start x) f
   refuses_both c start x each f = (
     elim [
       | inl p ↦ let h = (RA.refuses (first c) start x each f).0 p in record { octet = h.octet; first = first_failing-front (front_rows c start x) (back_rows c start x) _ h.first; place = h.place }
@@ -164,13 +134,14 @@ module _ {C CA CB V W : Type 0} {A : Meaning CA V} {B : Meaning CB W} {IsA : CA 
     ],
   )
 
-  pub seq_tail_read : IsTailRead pair IsBoth rows_both
-  seq_tail_read = record {
-    stands = stands_both;
-    refuses = refuses_both;
-    passes = passes_both;
-    places = λ c start x r h. elim (judged (front_rows c start x)) [
-      | inl p ↦ RA.places (first c) start x r (p.first ∙ (sym (first_failing-front (front_rows c start x) (back_rows c start x) p.refusal p.first) ∙ h))
-      | inr none ↦ omega (arith, RB.places (context c x) (start + size_a (first c) x) (back_of c x) r (sym (first_failing-back (front_rows c start x) (back_rows c start x) none) ∙ h))
-    ];
-  }
+  pub places_both : (c : C) (start : ℕ) (x : List ℕ) (r : RefusalView) → first_failing (rows_both c start x) ≡ Some r → start ≤ r.at
+  places_both c start x r h = elim (judged (front_rows c start x)) [
+    | inl p ↦ RA.places (first c) start x r (p.first ∙ (sym (first_failing-front (front_rows c start x) (back_rows c start x) p.refusal p.first) ∙ h))
+    | inr none ↦ omega (arith, RB.places (context c x) (start + size_a (first c) x) (back_of c x) r (sym (first_failing-back (front_rows c start x) (back_rows c start x) none) ∙ h))
+  ]
+
+  pub passes_parts : (c : C) (start : ℕ) (x : List ℕ) → IsOctets x → (first_failing (rows_both c start x) ≡ None) ↔ (Front (IsA (first c)) x × (first_failing (back_rows c start x) ≡ None))
+  passes_parts c start x each = (
+    λ h. let one = first_failing-none (front_rows c start x) (back_rows c start x) h in ((RA.passes (first c) start x each).0 one, sym (first_failing-back (front_rows c start x) (back_rows c start x) one) ∙ h),
+    λ p. first_failing-back (front_rows c start x) (back_rows c start x) ((RA.passes (first c) start x each).1 p.0) ∙ p.1,
+  )
