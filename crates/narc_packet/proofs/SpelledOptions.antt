@@ -5,9 +5,10 @@ use Rattle.std.proofs.lemmas.Grind.{flat_map-append}
 use Rattle.std.proofs.lemmas.List.{map-append}
 use Rattle.std.specs.List.{AllByRecursion}
 use Rattle.narc_bits.specs.Octets.{IsOctets, big_endian}
+use Rattle.narc_packet.specs.declared.limits.TheConstants.{MAX_AREA}
 use Rattle.narc_packet.specs.Options.{IpOptionView, IpNop, IpOther, TcpOptionView, TcpMss, TcpOther, ip_option, tcp_option, IsIpOption, IsTcpOption, ip_options_in, tcp_options_in, tcp_option_of, AreIpOptions, AreTcpOptions}
 use Rattle.narc_packet.specs.WellFormed.{FitArea}
-use Rattle.narc_packet.proofs.OptionLists.{IsFound, each_found, ip_options_in-append, ip_options_in-cons, AreIpOptions-few}
+use Rattle.narc_packet.proofs.OptionLists.{IsFound, each_found, ip_options_in-append, ip_options_in-cons, ip_options_in-other, AreIpOptions-few}
 
 AllByRecursion-append : {X : Type 0} (P : X → Type 0) (xs ys : List X) → AllByRecursion P xs → AllByRecursion P ys → AllByRecursion P (xs ++ ys)
 AllByRecursion-append P [] ys h k = k
@@ -191,3 +192,39 @@ FitArea-tcp_options l octets few = (
   λ e. let both = (FitArea-ip l octets few).0 e in (FitArea-tcp (ip_options_in l) both.0, AreTcpOptions-ip l both.1),
   λ h. sym (flat_map-found (ip_options_in l) (each_found 0 l octets)) ∙ h.1.0,
 )
+
+-- octets that fill an area with options, and nothing else
+pub fill_ip : (l : List ℕ) → IsOctets l
+    → ((length l ≤ MAX_AREA) × (flat_map ip_option (ip_options_in l) ≡ l)) ↔ (FitArea ip_option IsIpOption (ip_options_in l) × AreIpOptions l)
+fill_ip l octets = (
+  λ h. (FitArea-ip l octets h.0).0 h.1,
+  λ h. let bound = h.0.bound in (omega (arith, ap length h.1.0, bound), h.1.0),
+)
+
+pub fill_tcp : (l : List ℕ) → IsOctets l
+    → ((length l ≤ MAX_AREA) × (flat_map ip_option (ip_options_in l) ≡ l)) ↔ (FitArea tcp_option IsTcpOption (tcp_options_in l) × AreTcpOptions l)
+fill_tcp l octets = (
+  λ h. (FitArea-tcp_options l octets h.0).0 h.1,
+  λ h.
+      let bound = h.0.bound in
+      let few : length l ≤ MAX_AREA = omega (arith, ap length h.1.0, bound) in
+      (few, (FitArea-tcp_options l octets few).1 h),
+)
+
+-- octets that spell the same options of IPv4 are those that spell the same options of TCP
+found_again : (options : List IpOptionView) → AllByRecursion IsFound options → ip_options_in (flat_map ip_option options) ≡ options
+found_again [] h = refl
+found_again (IpNop ∷ options) h = ap (λ os. IpNop ∷ os) (found_again options h.1)
+found_again (IpOther kind octets ∷ options) h =
+    ip_options_in-other kind octets (flat_map ip_option options) h.0.0 ∙ ap (λ os. IpOther kind octets ∷ os) (found_again options h.1)
+
+pub same_tcp_options : (a b : List ℕ) → IsOctets a → IsOctets b → (ip_options_in a ≡ ip_options_in b) ↔ (tcp_options_in a ≡ tcp_options_in b)
+same_tcp_options a b a_octets b_octets =
+    let a_found = each_found 0 a a_octets in
+    let b_found = each_found 0 b b_octets in (
+      ap (map tcp_option_of),
+      λ e.
+          sym (found_again (ip_options_in a) a_found)
+          ∙ ap ip_options_in (sym (flat_map-found (ip_options_in a) a_found) ∙ ap (flat_map tcp_option) e ∙ flat_map-found (ip_options_in b) b_found)
+          ∙ found_again (ip_options_in b) b_found,
+    )

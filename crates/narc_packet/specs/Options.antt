@@ -1,6 +1,7 @@
 -- The options of IPv4 (RFC 791, section 3.1) and of TCP (RFC 793, section 3.1), and the areas that hold them.
 use Rattle.std.specs.Prelude.{◌≡◌, ℕ, zero, suc, ◌+◌, ◌-◌, ◌*◌, ◌%◌, ◌<◌, ◌≤◌, ◌≢◌, ◌^◌, Bool, true, false, ◌||◌, List, [], ◌∷◌, ◌++◌, length, map, take, flat_map, replicate, nat_lt, Option, Some, None, if◌then◌else◌}
 use Rattle.std.specs.List.{AllByRecursion}
+use Rattle.narc_packet.specs.declared.limits.TheConstants.{MAX_AREA}
 use Rattle.narc_bits.specs.Octets.{IsOctets, big_endian}
 
 -- an option of an IPv4 header, without where its data lies
@@ -57,7 +58,7 @@ pub record IsArea {O : Type 0} (spelling : O → List ℕ) (IsOption : O → Typ
   pub each : AllByRecursion IsOption options
   pub octets : IsOctets area
   pub whole_words : length area % 4 ≡ 0
-  pub bound : length area ≤ 40
+  pub bound : length area ≤ MAX_AREA
 
 abbrev pub IsIpArea : List IpOptionView → List ℕ → Type 0
 IsIpArea options area = IsArea ip_option IsIpOption options area

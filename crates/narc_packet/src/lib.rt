@@ -1,12 +1,14 @@
 //! Packets, and what octets are a frame of one.
 #![tactic(auto)]
 
+mod limits;
 mod option_list;
 mod options;
 mod packet;
 mod ranges;
 mod well_formed;
 
+pub use limits::{MAX_AREA, MAX_LENGTH};
 pub use option_list::{IpOptionList, OptionError, TcpOptionList};
 pub use options::{IpOption, IpOptionIter, IpOptions, TcpOption, TcpOptionIter, TcpOptions};
 pub use packet::{Arp, EthBody, IpBody, Ipv4, Packet, Tcp, Udp};

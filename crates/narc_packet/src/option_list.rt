@@ -4,14 +4,12 @@ ghost use Rattle.narc_packet.specs.Options.{ip_option, tcp_option, IsIpOption, I
 ghost use Rattle.narc_packet.specs.WellFormed.{FitArea};
 ghost use Rattle.narc_packet.specs.PacketView.{ip_option_view, tcp_option_view};
 
+use crate::limits::MAX_AREA;
 use crate::options::{IpOption, IpOptions, TcpOption, TcpOptions};
-use crate::ranges::known_octets;
 use arrayvec::ArrayVec;
+use narc_bits::known_octets;
 use std::marker::Model;
 use thiserror::Error;
-
-/// How many octets the options of a header have at most (RFC 791 and RFC 793, section 3.1).
-const LIMIT: usize = 40;
 
 /// Why an option does not get into a list.
 #[derive(Clone, Copy, Debug, Drop, PartialEq, Eq, Error)]
@@ -25,8 +23,11 @@ pub enum OptionError {
 }
 
 /// Appends the octets of an option.
-fn push_octets(spelled: &mut ArrayVec<u8, LIMIT>, option: IpOption<'_>) -> Result<(), OptionError>
-    ensures fits { IsOk result ↔ (IsIpOption (ip_option_view option.entry) × (length spelled.old.items + length (ip_option (ip_option_view option.entry)) ≤ LIMIT)) }
+fn push_octets(
+    spelled: &mut ArrayVec<u8, MAX_AREA>,
+    option: IpOption<'_>,
+) -> Result<(), OptionError>
+    ensures fits { IsOk result ↔ (IsIpOption (ip_option_view option.entry) × (length spelled.old.items + length (ip_option (ip_option_view option.entry)) ≤ MAX_AREA)) }
     ensures ok { OnOk result (spelled.new.items ≡ spelled.old.items ++ ip_option (ip_option_view option.entry)) }
     ensures unspelled { (result ≡ Err OptionError.NoSpelling) → IsIpOption (ip_option_view option.entry) → ⊥ }
     ensures full { (result ≡ Err OptionError.NoRoom) → IsIpOption (ip_option_view option.entry) }
@@ -36,7 +37,7 @@ fn push_octets(spelled: &mut ArrayVec<u8, LIMIT>, option: IpOption<'_>) -> Resul
         IpOption::Nop => spelled.try_push(1).map_err(|_| OptionError::NoRoom),
         IpOption::Other { kind, data } => {
             known_octets(data);
-            if kind < 2 || data.len() > LIMIT - 2 {
+            if kind < 2 || data.len() > MAX_AREA - 2 {
                 return Err(OptionError::NoSpelling);
             }
             if spelled.remaining_capacity() < 2 + data.len() {
@@ -53,18 +54,19 @@ fn push_octets(spelled: &mut ArrayVec<u8, LIMIT>, option: IpOption<'_>) -> Resul
 /// The options of an IPv4 header, in octets of their own, seen as the list of options.
 #[derive(Drop)]
 pub struct IpOptionList {
-    spelled: ArrayVec<u8, LIMIT>,
+    spelled: ArrayVec<u8, MAX_AREA>,
 }
 
 impl Model for IpOptionList {
     ghost use Rattle.std.specs.Prelude.{List, ◌≤◌, length};
+    ghost use Rattle.narc_packet.specs.declared.limits.TheConstants.{MAX_AREA};
     ghost use Rattle.narc_packet.specs.Options.{IpOptionView, AreIpOptions, ip_options_in};
 
     ghost Value = { List IpOptionView };
 
     ghost view = { λ list. ip_options_in list.spelled.items };
 
-    ghost invariant = { λ list. AreIpOptions list.spelled.items × (length list.spelled.items ≤ 40) };
+    ghost invariant = { λ list. AreIpOptions list.spelled.items × (length list.spelled.items ≤ MAX_AREA) };
 }
 
 impl IpOptionList {
@@ -91,7 +93,7 @@ impl IpOptionList {
     pub fn as_options(&self) -> IpOptions<'_>
         ensures value { ip_options_in result.spelled.now ≡ self.now }
         ensures spelled { AreIpOptions result.spelled.now }
-        ensures bound { length result.spelled.now ≤ 40 }
+        ensures bound { length result.spelled.now ≤ MAX_AREA }
     {
         IpOptions {
             spelled: self.spelled.as_slice(),
@@ -154,7 +156,7 @@ impl TcpOptionList {
     pub fn as_options(&self) -> TcpOptions<'_>
         ensures value { tcp_options_in result.spelled.now ≡ self.now }
         ensures spelled { AreTcpOptions result.spelled.now }
-        ensures bound { length result.spelled.now ≤ 40 }
+        ensures bound { length result.spelled.now ≤ MAX_AREA }
     {
         TcpOptions {
             spelled: self.alike.as_options().spelled,

@@ -3,7 +3,9 @@ ghost use Rattle.std.specs.Prelude.{◌≡◌, ◌↔◌, ◌<◌, ◌≤◌, �
 ghost use Rattle.narc_packet.specs.Options.{ip_option, ip_options_in, tcp_options_in, tcp_option_of};
 ghost use Rattle.narc_packet.specs.PacketView.{ip_option_view, tcp_option_view};
 
+use crate::limits::MAX_AREA;
 use arrayvec::ArrayVec;
+use narc_bits::known_octets;
 use std::marker::Model;
 
 /// An option of an IPv4 header (RFC 791, section 3.1): no operation, or any other with its data.
@@ -74,6 +76,42 @@ pub(crate) fn are_options(octets: &[u8]) -> bool
     left.is_empty()
 }
 
+/// Whether two options are the same, wherever their data lies.
+fn is_same_option(a: IpOption<'_>, b: IpOption<'_>) -> bool
+    ensures { IsTrue result ↔ (ip_option_view a.entry ≡ ip_option_view b.entry) }
+{
+    match (a, b) {
+        (IpOption::Nop, IpOption::Nop) => true,
+        (
+            IpOption::Other { kind, data },
+            IpOption::Other {
+                kind: other_kind,
+                data: other_data,
+            },
+        ) => { kind == other_kind && data == other_data }
+        _ => false,
+    }
+}
+
+/// Whether the octets spell the same options in the same order.
+fn spell_same_options(a: &[u8], b: &[u8]) -> bool
+    ensures { IsTrue result ↔ (ip_options_in a.now ≡ ip_options_in b.now) }
+{
+    let mut left = a;
+    let mut right = b;
+    while let Some((option, behind)) = split_first_option(left) {
+        let Some((other, other_behind)) = split_first_option(right) else {
+            return false;
+        };
+        if !is_same_option(option, other) {
+            return false;
+        }
+        left = behind;
+        right = other_behind;
+    }
+    split_first_option(right).is_none()
+}
+
 /// The options of an IPv4 header, one behind the other. Two are equal where their octets are.
 #[derive(Clone, Copy, Debug, Drop, PartialEq, Eq)]
 pub struct IpOptions<'a> {
@@ -95,6 +133,13 @@ impl<'a> IpOptions<'a> {
         split_first_option(self.spelled).is_none()
     }
 
+    /// Whether both are the same list of options, whatever stands behind them in their octets.
+    pub fn is_same_list(&self, other: &IpOptions<'_>) -> bool
+        ensures { IsTrue result ↔ (ip_options_in self.now.spelled.now ≡ ip_options_in other.now.spelled.now) }
+    {
+        spell_same_options(self.spelled, other.spelled)
+    }
+
     /// The options in order.
     pub fn iter(&self) -> IpOptionIter<'a>
         ensures { result ≡ ip_options_in self.now.spelled.now }
@@ -103,8 +148,8 @@ impl<'a> IpOptions<'a> {
     }
 
     /// The options in order, of at most 40 octets.
-    pub fn to_list(&self) -> ArrayVec<IpOption<'a>, 40>
-        requires { length self.now.spelled.now ≤ 40 }
+    pub fn to_list(&self) -> ArrayVec<IpOption<'a>, MAX_AREA>
+        requires { length self.now.spelled.now ≤ MAX_AREA }
         ensures { map ip_option_view result.items ≡ ip_options_in self.now.spelled.now }
     {
         let mut list = ArrayVec::new();
@@ -136,6 +181,15 @@ impl<'a> TcpOptions<'a> {
         split_first_option(self.spelled).is_none()
     }
 
+    /// Whether both are the same list of options, whatever stands behind them in their octets.
+    pub fn is_same_list(&self, other: &TcpOptions<'_>) -> bool
+        ensures { IsTrue result ↔ (tcp_options_in self.now.spelled.now ≡ tcp_options_in other.now.spelled.now) }
+    {
+        known_octets(self.spelled);
+        known_octets(other.spelled);
+        spell_same_options(self.spelled, other.spelled)
+    }
+
     /// The options in order.
     pub fn iter(&self) -> TcpOptionIter<'a>
         ensures { result ≡ tcp_options_in self.now.spelled.now }
@@ -144,8 +198,8 @@ impl<'a> TcpOptions<'a> {
     }
 
     /// The options in order, of at most 40 octets.
-    pub fn to_list(&self) -> ArrayVec<TcpOption<'a>, 40>
-        requires { length self.now.spelled.now ≤ 40 }
+    pub fn to_list(&self) -> ArrayVec<TcpOption<'a>, MAX_AREA>
+        requires { length self.now.spelled.now ≤ MAX_AREA }
         ensures { map tcp_option_view result.items ≡ tcp_options_in self.now.spelled.now }
     {
         let mut list = ArrayVec::new();

@@ -1,13 +1,9 @@
 //! What the types of a packet's parts say about their numbers: each of these calls does nothing, and ensures it.
-ghost use Rattle.narc_bits.specs.Octets.{IsOctets};
 ghost use Rattle.narc_packet.specs.PacketView.{udp_view};
 ghost use Rattle.narc_packet.specs.Ranges.{IsMac, IsIp, IsArpInRange, IsUdpInRange};
 
 use crate::packet::{Arp, Udp};
-
-pub(crate) fn known_octets(octets: &[u8])
-    ensures { IsOctets octets.now }
-{}
+use narc_bits::known_octets;
 
 pub(crate) fn known_mac(address: &[u8; 6])
     ensures { IsMac address.now }

@@ -116,3 +116,52 @@ fn the_longest_packet_has_65515_octets_of_data(rt: HostRuntime) {
     };
     assert!(rt; is_well_formed(&ipv4(false, raw)));
 }
+
+#[test]
+fn lists_of_options_are_compared_up_to_their_end(rt: HostRuntime) {
+    let stamp = IpOptions {
+        spelled: &[1, 68, 3, 9],
+    };
+    let ended = IpOptions {
+        spelled: &[1, 68, 3, 9, 0, 7],
+    };
+    let other_data = IpOptions {
+        spelled: &[1, 68, 3, 8],
+    };
+    let shorter = IpOptions { spelled: &[1] };
+    assert!(rt; stamp.is_same_list(&ended));
+    assert!(rt; !stamp.is_same_list(&other_data));
+    assert!(rt; !stamp.is_same_list(&shorter));
+    assert!(rt; !shorter.is_same_list(&stamp));
+    let size = TcpOptions {
+        spelled: &[2, 4, 5, 180],
+    };
+    let ended = TcpOptions {
+        spelled: &[2, 4, 5, 180, 0],
+    };
+    let other_size = TcpOptions {
+        spelled: &[2, 4, 5, 181],
+    };
+    assert!(rt; size.is_same_list(&ended));
+    assert!(rt; !size.is_same_list(&other_size));
+}
+
+fn other(ether_type: u16, payload: &[u8]) -> Packet<'_> {
+    Packet {
+        dst: [2, 0, 0, 0, 0, 0xaa],
+        src: [2, 0, 0, 0, 0, 0xbb],
+        body: EthBody::Other {
+            ether_type,
+            payload,
+        },
+    }
+}
+
+#[test]
+fn data_of_another_type_fits_a_frame(rt: HostRuntime) {
+    let octets = [0; 262_131];
+    assert!(rt; is_well_formed(&other(0x88b5, &octets[1..])));
+    assert!(rt; !is_well_formed(&other(0x88b5, &octets)));
+    assert!(rt; !is_well_formed(&other(0x0800, &[])));
+    assert!(rt; !is_well_formed(&other(0x0806, &[])));
+}

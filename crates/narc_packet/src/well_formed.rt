@@ -1,20 +1,16 @@
 //! Which packets have a frame.
-ghost use Rattle.std.specs.Prelude.{◌≡◌, ◌↔◌, ◌≤◌, ◌+◌, IsTrue, length};
+ghost use Rattle.std.specs.Prelude.{◌≡◌, ◌↔◌, ◌≤◌, ◌+◌, IsTrue, length, flat_map};
 ghost use Rattle.narc_packet.specs.PacketView.{view, udp_view, tcp_view, ip_body_view, ipv4_view, eth_body_view};
 ghost use Rattle.narc_packet.specs.Ranges.{IsMac, IsIp, IsArpInRange, IsUdpInRange, IsTcpInRange};
 ghost use Rattle.narc_packet.specs.Options.{ip_option, tcp_option, IsIpOption, IsTcpOption, AreIpOptions, AreTcpOptions, ip_options_in, tcp_options_in, ip_area, filled};
 ghost use Rattle.narc_packet.specs.Ipv4.{IsIpv4InRange, MayHaveBody, is_fragment};
 ghost use Rattle.narc_packet.specs.WellFormed.{FitArea, IsWellFormedIpBody, smallest_length, IsWellFormedIpv4, IsWellFormedEthBody, IsWellFormed, SpellsIpBody, SpellsIpv4, SpellsEthBody, SpellsOptions};
 
+use crate::limits::{MAX_AREA, MAX_LENGTH};
 use crate::options::{IpOptions, TcpOptions, are_options};
 use crate::packet::{EthBody, IpBody, Ipv4, Packet, Tcp};
-use crate::ranges::{known_arp, known_ip, known_mac, known_octets, known_udp};
-
-/// The most octets of an options area (RFC 791 and RFC 793, section 3.1).
-const AREA: usize = 40;
-
-/// The most octets of an IPv4 packet (RFC 791, section 3.1).
-const TOTAL: usize = 65_535;
+use crate::ranges::{known_arp, known_ip, known_mac, known_udp};
+use narc_bits::{MAX_FRAME, known_octets};
 
 /// The Ethernet types and the protocols whose data is read.
 const ARP_TYPE: u16 = 0x0806;
@@ -26,14 +22,21 @@ const TCP: u8 = 6;
 const UDP: u8 = 17;
 
 /// The most octets of a frame behind its header.
-const PAYLOAD: usize = 262_130;
+const PAYLOAD: usize = MAX_FRAME - 14;
+
+/// Whether the octets spell options that fit an area, and nothing else.
+fn fill_area(octets: &[u8]) -> bool
+    ensures { IsTrue result ↔ ((length octets.now ≤ MAX_AREA) × (flat_map ip_option (ip_options_in octets.now) ≡ octets.now)) }
+{
+    octets.len() <= MAX_AREA && are_options(octets)
+}
 
 fn are_ip_options(options: &IpOptions<'_>) -> bool
     ensures { IsTrue result
         ↔ (FitArea ip_option IsIpOption (ip_options_in options.now.spelled.now) × AreIpOptions options.now.spelled.now) }
 {
     known_octets(options.spelled);
-    options.spelled.len() <= AREA && are_options(options.spelled)
+    fill_area(options.spelled)
 }
 
 fn are_tcp_options(options: &TcpOptions<'_>) -> bool
@@ -41,7 +44,7 @@ fn are_tcp_options(options: &TcpOptions<'_>) -> bool
         ↔ (FitArea tcp_option IsTcpOption (tcp_options_in options.now.spelled.now) × AreTcpOptions options.now.spelled.now) }
 {
     known_octets(options.spelled);
-    options.spelled.len() <= AREA && are_options(options.spelled)
+    fill_area(options.spelled)
 }
 
 fn is_tcp_in_range(tcp: &Tcp<'_>) -> bool
@@ -95,22 +98,22 @@ fn is_well_formed_ip_body(body: &IpBody<'_>) -> bool
 
 /// How many octets the shortest area has for options that these octets spell.
 fn area_length(spelled: &[u8]) -> usize
-    requires { length spelled.now ≤ 40 }
+    requires { length spelled.now ≤ MAX_AREA }
     ensures value { result ≡ length (filled spelled.now) }
-    ensures bound { result ≤ 40 }
+    ensures bound { result ≤ MAX_AREA }
 {
     spelled.len() + (4 - spelled.len() % 4) % 4
 }
 
 /// Whether the total length can be told, with the shortest areas and no surplus.
 fn fits_total_length(ip: &Ipv4<'_>) -> bool
-    requires options { length ip.now.options.spelled.now ≤ 40 }
+    requires options { length ip.now.options.spelled.now ≤ MAX_AREA }
     requires body { IsWellFormedIpBody (ip_body_view ip.now.body) }
     requires spelled { SpellsIpv4 ip.now }
     ensures { IsTrue result
-        ↔ (20 + length (ip_area (ip_options_in ip.now.options.spelled.now)) + smallest_length (ip_body_view ip.now.body) ≤ TOTAL) }
+        ↔ (20 + length (ip_area (ip_options_in ip.now.options.spelled.now)) + smallest_length (ip_body_view ip.now.body) ≤ MAX_LENGTH) }
 {
-    let room = TOTAL - 20 - area_length(ip.options.spelled);
+    let room = MAX_LENGTH - 20 - area_length(ip.options.spelled);
     match &ip.body {
         IpBody::Udp(udp) => udp.payload.len() <= room - 8,
         IpBody::Tcp(tcp) => tcp.payload.len() <= room - 20 - area_length(tcp.options.spelled),
@@ -147,7 +150,7 @@ fn is_well_formed_eth_body(body: &EthBody<'_>) -> bool
     }
 }
 
-/// Whether the packet has a frame of at most 262,144 octets, and its octets of options spell them and nothing else.
+/// Whether the packet has a frame of at most `MAX_FRAME` octets, and its octets of options spell them and nothing else.
 pub fn is_well_formed(packet: &Packet<'_>) -> bool
     ensures { IsTrue result ↔ (IsWellFormed (view packet.now) × SpellsOptions packet.now) }
 {

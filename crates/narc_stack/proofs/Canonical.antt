@@ -1,26 +1,26 @@
 -- The octets that are written of a well-formed packet are a frame of it.
-use Rattle.std.proofs.Common.{◌≡◌, ℕ, zero, suc, ◌+◌, ◌*◌, ◌-◌, ◌/◌, ◌%◌, ◌^◌, ◌<◌, ◌≤◌, ◌⊎◌, Bool, true, false, ◌&&◌, List, [], ◌∷◌, ◌++◌, length, take, replicate, nat_eq, nat_lt, if◌then◌else◌, IsTrue, refl, sym, ap, ◌∙◌, subst, append_assoc, append-nil, arith, inl, inr, lit<, length-append}
+use Rattle.std.proofs.Common.{◌≡◌, ℕ, zero, suc, ◌+◌, ◌*◌, ◌-◌, ◌/◌, ◌%◌, ◌^◌, ◌<◌, ◌≤◌, Bool, true, false, List, [], ◌∷◌, ◌++◌, length, take, replicate, nat_eq, if◌then◌else◌, refl, sym, ap, ◌∙◌, subst, append_assoc, append-nil, arith, inr, lit<, length-append}
 use Rattle.std.specs.Prelude.{flat_map}
 use Rattle.std.specs.List.{AllByRecursion}
-use Rattle.std.proofs.lemmas.Bool.{lt-ltb, eqb-true}
+use Rattle.std.proofs.lemmas.Bool.{eqb-true}
 use Rattle.std.proofs.lemmas.List.{take_at, length-replicate}
 use Rattle.narc_bits.specs.Octets.{IsOctets, big_endian}
-use Rattle.narc_bits.specs.InternetSum.{total, complement, IsGoodTotal, is_good_sum, IsGoodSum, checksum}
+use Rattle.narc_bits.specs.InternetSum.{total, complement, IsGoodTotal, IsGoodSum, checksum}
 use Rattle.narc_bits.proofs.Octets.{IsOctets-append, IsOctets-big_endian}
 use Rattle.narc_bits.proofs.Sums.{total-append, total-word}
 use Rattle.narc_sum.specs.Checked.{never_zero}
 use Rattle.narc_sum.specs.Seals.{complement_good, complement_full_good}
 use Rattle.narc_packet.specs.declared.packet.Arp.{Arp}
-use Rattle.narc_packet.specs.Ranges.{IsIp, IsMac, IsArpInRange, IsUdpInRange, IsTcpInRange}
+use Rattle.narc_packet.specs.Ranges.{IsIp, IsArpInRange, IsUdpInRange, IsTcpInRange}
 use Rattle.narc_packet.specs.Options.{IpOptionView, IpNop, IpOther, TcpOptionView, TcpNop, TcpMss, TcpOther, IsOtherOption, ip_option, tcp_option, IsIpOption, IsTcpOption, IsListEnd, IsArea, filled, ip_area, tcp_area}
 use Rattle.narc_packet.specs.PacketView.{UdpView, TcpView, IpBodyView, UdpBody, TcpBody, RawBody, Ipv4View, EthBodyView, ArpBody, Ipv4Body, OtherBody, PacketView}
 use Rattle.narc_packet.specs.Udp.{udp_length, udp_octets, udp_pseudo_header, IsUdp, udp_checksum, canonical_udp}
 use Rattle.narc_packet.specs.Tcp.{tcp_octets, tcp_pseudo_header, IsTcp, canonical_tcp}
 use Rattle.narc_packet.specs.Ipv4.{protocol_of, fragment_word, IsIpBody, IsIpv4, ipv4_header, canonical_ip_body, canonical_ipv4}
+use Rattle.narc_packet.specs.Canonical.{padded, canonical_eth_body, canonical_frame}
 use Rattle.narc_packet.specs.Frame.{IsEthBody, IsFrame, arp_octets, ether_type_of}
 use Rattle.narc_packet.specs.WellFormed.{FitArea, IsWellFormedIpBody, IsWellFormedIpv4, smallest_length}
 use Rattle.narc_stack.specs.Admitted.{IsAdmittedBody, IsAdmitted}
-use Rattle.narc_stack.specs.Written.{content_of, padded_to, shortest, written}
 
 -- a word behind an even number of octets
 total_at : (front back : List ℕ) (k : ℕ) → length front % 2 ≡ 0 → k < 65536 → total (front ++ (big_endian 2 k ++ back)) ≡ total front + (k + total back)
@@ -290,6 +290,12 @@ module _ (p : Ipv4View) (w : IsWellFormedIpv4 p) where
         sum_range = omega arith;
       }
 
+  pub canonical_few : length (canonical_ipv4 p) ≤ 65535
+  canonical_few =
+      let sum = checksum (header 0) in
+      let short = w.fits in
+      omega (arith, length-append (header sum) its_data, header_length sum, canonical_length p.src p.dst p.body, short)
+
   pub canonical_each : IsOctets (canonical_ipv4 p)
   canonical_each =
       let r = w.in_range in
@@ -297,8 +303,24 @@ module _ (p : Ipv4View) (w : IsWellFormedIpv4 p) where
       IsOctets-append (header (checksum (header 0))) its_data (header_each (checksum (header 0))) (body_each p.src p.dst p.body its_data (canonical_body p.src p.dst r.src r.dst p.body w.body (omega (arith, short))))
 
 -- a frame
-no_zeros : (n m : ℕ) → n ≡ 0 → n - m ≡ 0
-no_zeros n m e = omega (arith, e)
+pub arp_length : (a : Arp) → IsArpInRange a → length (arp_octets a) ≡ 28
+arp_length a h =
+    let sender_mac = h.sender_mac.0 in
+    let sender_ip = h.sender_ip.0 in
+    let target_mac = h.target_mac.0 in
+    let target_ip = h.target_ip.0 in
+    let front = big_endian 2 1 ++ big_endian 2 2048 ++ (6 ∷ 4 ∷ []) ++ big_endian 2 a.op in
+    omega (
+      arith,
+      length-append (front ++ a.sender_mac ++ a.sender_ip ++ a.target_mac) a.target_ip,
+      length-append (front ++ a.sender_mac ++ a.sender_ip) a.target_mac,
+      length-append (front ++ a.sender_mac) a.sender_ip,
+      length-append front a.sender_mac,
+      sender_mac,
+      sender_ip,
+      target_mac,
+      target_ip,
+    )
 
 arp_each : (a : Arp) → IsArpInRange a → IsOctets (arp_octets a)
 arp_each a h =
@@ -310,29 +332,29 @@ arp_each a h =
     in
     subst IsOctets (sym joined) (lit< tt, (lit< tt, (lit< tt, (lit< tt, (lit< tt, (lit< tt, IsOctets-append (big_endian 2 a.op) ((a.sender_mac ++ a.sender_ip) ++ (a.target_mac ++ a.target_ip)) (IsOctets-big_endian 2 a.op) both))))))
 
-content_each : (b : EthBodyView) → IsAdmittedBody b → IsOctets (content_of b)
-content_each (ArpBody a) h = arp_each a h
-content_each (Ipv4Body p) h = canonical_each p h
-content_each (OtherBody t payload) h = h.3
+padded_each : (l : List ℕ) → IsOctets l → IsOctets (padded l)
+padded_each l each = IsOctets-append l (replicate (46 - length l) 0) each (zeros_each (46 - length l))
 
-written_body : (b : EthBodyView) → IsAdmittedBody b → (zeros : List ℕ) → (shortest b ≡ 0 → zeros ≡ []) → IsEthBody b (content_of b ++ zeros)
-written_body (ArpBody a) h zeros none = (h, zeros, refl)
-written_body (Ipv4Body p) h zeros none = (canonical_ipv4 p, zeros, canonical_is_ipv4 p h, refl)
-written_body (OtherBody t payload) h zeros none = (h.0, h.1, h.2, ap (λ l. payload ++ l) (none refl) ∙ append-nil payload)
+eth_body_each : (b : EthBodyView) → IsAdmittedBody b → IsOctets (canonical_eth_body b)
+eth_body_each (ArpBody a) h = padded_each (arp_octets a) (arp_each a h)
+eth_body_each (Ipv4Body p) h = padded_each (canonical_ipv4 p) (canonical_each p h)
+eth_body_each (OtherBody t payload) h = h.3
 
--- what is written of a packet is a frame of it
-pub written_is_frame : (p : PacketView) → IsAdmitted p → IsFrame p (written p)
-written_is_frame p h =
-    let head = p.dst ++ p.src ++ big_endian 2 (ether_type_of p.body) in
-    let whole = head ++ content_of p.body in
-    let zeros : List ℕ = replicate (shortest p.body - length whole) 0 in
-    let none : shortest p.body ≡ 0 → zeros ≡ [] = λ e. ap (λ n. replicate n 0) (no_zeros (shortest p.body) (length whole) e) in
-    let front = IsOctets-append (p.dst ++ p.src) (big_endian 2 (ether_type_of p.body)) (IsOctets-append p.dst p.src h.dst.1 h.src.1) (IsOctets-big_endian 2 (ether_type_of p.body)) in
+canonical_is_eth_body : (b : EthBodyView) → IsAdmittedBody b → IsEthBody b (canonical_eth_body b)
+canonical_is_eth_body (ArpBody a) h = (h, replicate (46 - length (arp_octets a)) 0, refl)
+canonical_is_eth_body (Ipv4Body p) h = (canonical_ipv4 p, replicate (46 - length (canonical_ipv4 p)) 0, canonical_is_ipv4 p h, refl)
+canonical_is_eth_body (OtherBody t payload) h = (h.0, h.1, h.2, refl)
+
+-- the canonical octets of a packet are a frame of it
+pub canonical_is_frame : (p : PacketView) → IsAdmitted p → IsFrame p (canonical_frame p)
+canonical_is_frame p h =
+    let ether_type = big_endian 2 (ether_type_of p.body) in
+    let front = IsOctets-append (p.dst ++ p.src) ether_type (IsOctets-append p.dst p.src h.dst.1 h.src.1) (IsOctets-big_endian 2 (ether_type_of p.body)) in
     record {
-      content = content_of p.body ++ zeros;
-      layout = append_assoc head (content_of p.body) zeros;
-      body = written_body p.body h.body zeros none;
+      content = canonical_eth_body p.body;
+      layout = refl;
+      body = canonical_is_eth_body p.body h.body;
       dst = h.dst;
       src = h.src;
-      octets = IsOctets-append whole zeros (IsOctets-append head (content_of p.body) front (content_each p.body h.body)) (zeros_each (shortest p.body - length whole));
+      octets = IsOctets-append (p.dst ++ p.src ++ ether_type) (canonical_eth_body p.body) front (eth_body_each p.body h.body);
     }

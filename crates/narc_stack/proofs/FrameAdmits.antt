@@ -1,11 +1,12 @@
 -- Which packets can be written.
-use Rattle.std.proofs.Common.{◌≡◌, ℕ, ◌+◌, ◌*◌, ◌-◌, ◌/◌, ◌%◌, ◌≤◌, ◌↔◌, List, ◌++◌, length, replicate, sym, ap, ◌∙◌, subst, arith, length-append}
+use Rattle.std.proofs.Common.{ℕ, ◌-◌, ◌%◌, ◌≤◌, ◌↔◌, List, length, replicate, ap, subst, arith, length-append}
 use Rattle.std.specs.Prelude.{flat_map}
 use Rattle.std.proofs.lemmas.List.{length-replicate}
 use Rattle.narc_bits.specs.Octets.{IsOctets}
 use Rattle.narc_bits.specs.Bits.{bits}
 use Rattle.narc_bits.proofs.Octets.{IsOctets-back}
 use Rattle.narc_packet.specs.Options.{IsArea, filled, tcp_option, IsTcpOption, ip_option, IsIpOption}
+use Rattle.narc_packet.specs.Canonical.{canonical_frame}
 use Rattle.narc_packet.specs.PacketView.{IpBodyView, UdpBody, TcpBody, RawBody, Ipv4View, EthBodyView, ArpBody, Ipv4Body, OtherBody, PacketView, view}
 use Rattle.narc_packet.specs.Ipv4.{IsIpBody, IsIpv4}
 use Rattle.narc_packet.specs.Frame.{IsEthBody, IsFrame}
@@ -13,8 +14,7 @@ use Rattle.narc_packet.specs.WellFormed.{FitArea, IsWellFormedIpBody, IsWellForm
 use Rattle.narc_packet.specs.declared.packet.Packet.{Packet}
 use Rattle.narc_stack.specs.WholeFrame.{whole_frame}
 use Rattle.narc_stack.specs.Admitted.{IsAdmittedBody, IsAdmitted}
-use Rattle.narc_stack.specs.Written.{written}
-use Rattle.narc_stack.proofs.Canonical.{written_is_frame}
+use Rattle.narc_stack.proofs.Canonical.{canonical_is_frame}
 use Rattle.narc_stack.proofs.FrameSound.{frame_sound, frame_valid, frame_laws}
 use Rattle.narc_stack.proofs.FrameRead.{frame_read}
 use Rattle.narc_stack.proofs.FrameRelation.{frame_is, frame_stands}
@@ -55,7 +55,7 @@ eth_admitted (ArpBody a) x each h = h.0
 eth_admitted (Ipv4Body p) x each h = ipv4_admitted p h.0 h.2
 eth_admitted (OtherBody t payload) x each h = (h.0, h.1, h.2, subst IsOctets h.3 each)
 
-admitted_of : (p : PacketView) (b : List ℕ) → IsFrame p b → IsAdmitted p
+pub admitted_of : (p : PacketView) (b : List ℕ) → IsFrame p b → IsAdmitted p
 admitted_of p b f = record { dst = f.dst; src = f.src; body = eth_admitted p.body f.content (IsOctets-back _ f.content (subst IsOctets f.layout f.octets)) f.body }
 
 pub frame_admits : (p : Packet) → whole_frame.admits tt p ↔ (IsAdmitted (view p) × SpellsOptions p)
@@ -66,6 +66,6 @@ frame_admits p = (
       let is = (frame_is p s.octets s.each).0 s.is in
       (admitted_of (view p) s.octets is.0, is.1),
   λ h.
-      let f = written_is_frame (view p) h.0 in
-      frame_laws.admitted frame_sound tt frame_valid p (bits (written (view p))) ((frame_stands p (written (view p)) f.octets).1 (f, h.1)),
+      let f = canonical_is_frame (view p) h.0 in
+      frame_laws.admitted frame_sound tt frame_valid p (bits (canonical_frame (view p))) ((frame_stands p (canonical_frame (view p)) f.octets).1 (f, h.1)),
 )

@@ -1,5 +1,6 @@
 -- The one right answer for a frame, from what its reading did.
 use Rattle.std.proofs.Common.{◌≡◌, ℕ, ◌+◌, ◌*◌, ◌/◌, ◌≤◌, ◌⊎◌, List, length, Option, Some, None, Ok, Err, refl, sym, ap, ◌∙◌, subst, arith, inl, inr}
+use Rattle.narc_bits.specs.declared.limits.TheConstants.{MAX_FRAME}
 use Rattle.narc_bits.specs.Octets.{IsOctets}
 use Rattle.narc_bits.specs.Bits.{bits}
 use Rattle.narc_bits.specs.Scan.{Scan, bits_left}
@@ -86,7 +87,7 @@ module _ (b : List ℕ) (each : IsOctets b) where
         refused = λ r h. let same : Some here ≡ Some r = sym right ∙ h in let one : here ≡ r = cc in ap Err one;
       }
 
-  pub either : length b ≤ 262144 → ((p : PacketView) × IsFrame p b) ⊎ ((r : RefusalView) × (refusal b ≡ Some r))
+  pub either : length b ≤ MAX_FRAME → ((p : PacketView) × IsFrame p b) ⊎ ((r : RefusalView) × (refusal b ≡ Some r))
   unfolding stripped seq_tail
   either small = elim (frame_laws.read_or_refused frame_sound tt tt (bits b) (record { small = omega (arith, small, length-bits b); octets = λ h. omega (arith, length-bits b) })) [
     | inl r ↦ inl (view r.found, ((frame_stands r.found b each).0 r.stood).0)

@@ -1,11 +1,9 @@
 -- The octets that are written of an IPv4 packet.
-use Rattle.std.proofs.Common.{◌≡◌, ℕ, ◌+◌, ◌*◌, ◌-◌, ◌/◌, ◌%◌, ◌^◌, ◌<◌, ◌≤◌, Bool, true, false, not, ◌&&◌, ◌||◌, List, [], ◌∷◌, ◌++◌, length, replicate, nat_eq, if◌then◌else◌, IsTrue, IsFalse, refl, sym, ap, ◌∙◌, subst, append_assoc, arith, lit<, length-append}
-use Rattle.std.specs.Prelude.{flat_map}
+use Rattle.std.proofs.Common.{◌≡◌, ℕ, ◌+◌, ◌*◌, ◌-◌, ◌%◌, ◌<◌, ◌≤◌, Bool, true, false, not, ◌&&◌, ◌||◌, List, [], ◌++◌, length, replicate, nat_eq, if◌then◌else◌, refl, sym, ap, ◌∙◌, subst, append_assoc, arith, length-append}
 use Rattle.std.proofs.lemmas.List.{length-replicate}
 use Rattle.narc_bits.specs.Bits.{bits}
 use Rattle.narc_bits.specs.InternetSum.{checksum}
 use Rattle.narc_bits.proofs.Numbers.{bits-append}
-use Rattle.narc_compose.specs.declared.either.Either.{Either}
 use Rattle.narc_compose.specs.declared.either.Either.TheVariants.{Left, Right}
 use Rattle.narc_compose.specs.Measured.{measured}
 use Rattle.narc_compose.specs.Seq.{seq_tail}
@@ -14,16 +12,14 @@ use Rattle.narc_compose.specs.Union.{united, side_spelling}
 use Rattle.narc_list.specs.Bytes.{all_octets}
 use Rattle.narc_list.specs.Pad.{padding}
 use Rattle.narc_list.specs.Region.{region}
-use Rattle.narc_packet.specs.Options.{tcp_options_in, filled, ip_area, tcp_area}
+use Rattle.narc_packet.specs.Options.{filled, ip_area}
 use Rattle.narc_packet.specs.PacketView.{Ipv4View, RawBody, ip_body_view, ipv4_view}
-use Rattle.narc_packet.specs.Ipv4.{is_fragment, MayHaveBody, ipv4_header, canonical_ip_body, canonical_ipv4}
-use Rattle.narc_packet.specs.Ipv4 as ip
+use Rattle.narc_packet.specs.Ipv4.{MayHaveBody, ipv4_header, canonical_ip_body, canonical_ipv4}
 use Rattle.narc_packet.specs.WellFormed.{IsWellFormedIpBody, IsWellFormedIpv4, smallest_length, SpellsIpBody, SpellsIpv4}
 use Rattle.narc_packet.specs.declared.packet.IpBody.{IpBody}
 use Rattle.narc_packet.specs.declared.packet.IpBody.TheVariants as ip_body
 use Rattle.narc_packet.specs.declared.packet.Ipv4.{Ipv4}
 use Rattle.narc_ipv4.specs.declared.as_header.IpHeader.{IpHeader}
-use Rattle.narc_ipv4.specs.Header.{ip_head}
 use Rattle.narc_ipv4.specs.HeaderOctets.{FitsHeader, header_with, canonical_header}
 use Rattle.narc_ipv4.specs.HeaderOctets as head
 use Rattle.narc_ipv4.proofs.HeaderWritten.{head_written}
@@ -34,8 +30,8 @@ use Rattle.narc_transport.specs.Parts.{udp_part, tcp_part}
 use Rattle.narc_transport.proofs.UdpWritten.{udp_written}
 use Rattle.narc_transport.proofs.TcpWritten.{tcp_written}
 use Rattle.narc_stack.specs.declared.content.Content.{Content}
-use Rattle.narc_stack.specs.Content.{by_udp, by_tcp, tcp_or_raw, ip_content}
-use Rattle.narc_stack.specs.Ipv4.{content_of, zeros_of, protocol_of, words_of, octets_of, raw_content, header_of, raw_ipv4}
+use Rattle.narc_stack.specs.Content.{tcp_or_raw, ip_content}
+use Rattle.narc_stack.specs.Ipv4.{content_of, protocol_of, words_of, octets_of, raw_content, header_of}
 use Rattle.narc_stack.specs.Ipv4Part.{ipv4_part}
 use Rattle.narc_stack.proofs.ContentRead.{taken, not_taken}
 use Rattle.narc_stack.proofs.Ipv4Relation.{protocol_view}

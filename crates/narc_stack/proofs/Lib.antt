@@ -13,3 +13,6 @@ pub mod Canonical
 pub mod FrameAdmits
 pub mod Ipv4Written
 pub mod FrameWritten
+pub mod WellFormed
+pub mod Rooms
+pub mod Encoded

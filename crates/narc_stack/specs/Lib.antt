@@ -5,5 +5,4 @@ pub mod Ipv4Part
 pub mod RawFrame
 pub mod WholeFrame
 pub mod Admitted
-pub mod Written
 pub mod Judgement

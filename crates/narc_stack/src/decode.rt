@@ -1,6 +1,8 @@
 //! Reading whole frames.
-ghost use Rattle.std.specs.Prelude.{◌≡◌, ◌+◌, ◌*◌, ◌≤◌, length};
+ghost use Rattle.std.specs.Prelude.{◌≡◌, ◌+◌, ◌*◌, ◌≤◌, IfOk, length};
 ghost use Rattle.narc_packet.specs.Answer.{IsAnswer, IsOnlyAnswer};
+ghost use Rattle.narc_packet.specs.PacketView.{view};
+ghost use Rattle.narc_packet.specs.WellFormed.{IsWellFormed, SpellsOptions};
 ghost use Rattle.narc_stack.specs.AnswerView.{answer_view};
 
 use crate::frame::Frame;
@@ -22,6 +24,8 @@ pub fn decode_frame<'a, L: Ledger>(
     requires small { length bytes.now ≤ MAX_FRAME }
     ensures answer { IsAnswer bytes.now (answer_view result) }
     ensures only { IsOnlyAnswer bytes.now (answer_view result) }
+    ensures well_formed { IfOk result (λ packet. IsWellFormed (view packet)) }
+    ensures spelled { IfOk result (λ packet. SpellsOptions packet) }
     ensures cost { steps.new ≤ steps.old + 16 * length bytes.now + 1 }
 {
     let mut cursor = Cursor::new(bytes);

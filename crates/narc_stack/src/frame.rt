@@ -6,17 +6,17 @@ ghost use Rattle.narc_format.specs.declared.fault.Fault.{Fault};
 ghost use Rattle.narc_format.specs.Rows.{RefusalView};
 ghost use Rattle.narc_layout.specs.FirstFault.{IsFirstFault};
 ghost use Rattle.narc_packet.specs.declared.packet.Packet.{Packet};
+ghost use Rattle.narc_packet.specs.Canonical.{canonical_frame};
 ghost use Rattle.narc_packet.specs.PacketView.{PacketView, view};
 ghost use Rattle.narc_packet.specs.WellFormed.{SpellsOptions};
 ghost use Rattle.narc_packet.specs.Frame.{IsFrame};
 ghost use Rattle.narc_packet.specs.Refusal.{rows_for, refusal};
 ghost use Rattle.narc_stack.specs.WholeFrame.{by_type, by_ipv4};
 ghost use Rattle.narc_stack.specs.Admitted.{IsAdmitted};
-ghost use Rattle.narc_stack.specs.Written.{written};
 
 use crate::as_packet::{AsPacket, Header};
 use crate::ipv4_part::Ipv4Part;
-use narc_bits::Cursor;
+use narc_bits::{Cursor, MAX_FRAME};
 use narc_compose::{Carry, Either, Parted, Pick, SeqTail, Strip, Union};
 use narc_eth::{ArpFormat, EthHead};
 use narc_format::Tail;
@@ -136,7 +136,7 @@ pub fn frame_is_refused_by_row()
 
 /// Octets are a frame of one packet, or they are refused, and never both.
 pub fn octets_are_a_frame_or_refused()
-    ensures either { (b : List ℕ) → IsOctets b → length b ≤ 262144 → ((p : PacketView) × IsFrame p b) ⊎ ((r : RefusalView) × (refusal b ≡ Some r)) }
+    ensures either { (b : List ℕ) → IsOctets b → length b ≤ MAX_FRAME → ((p : PacketView) × IsFrame p b) ⊎ ((r : RefusalView) × (refusal b ≡ Some r)) }
     ensures never_both { (b : List ℕ) (p : PacketView) → IsFrame p b → refusal b ≡ None }
     ensures one_packet { (b : List ℕ) (p q : PacketView) → IsFrame p b → IsFrame q b → p ≡ q }
 {}
@@ -150,5 +150,5 @@ pub fn frame_admits_its_packets()
 /// What is written for a packet: its octets, with the shortest areas of options and no surplus, and for ARP and IPv4 octets
 /// 0 behind them, up to 60.
 pub fn frame_is_written_with_padding()
-    ensures { (p : Packet) → IsAdmitted (view p) → SpellsOptions p → ⟦<Frame as Tail<Cursor<'static>>>⟧.meaning.spelling tt p ≡ bits (written (view p)) }
+    ensures { (p : Packet) → IsAdmitted (view p) → SpellsOptions p → ⟦<Frame as Tail<Cursor<'static>>>⟧.meaning.spelling tt p ≡ bits (canonical_frame (view p)) }
 {}

@@ -1,8 +1,9 @@
 //! Frames that end early, octet by octet.
 ghost use Rattle.std.specs.Prelude.{◌≤◌};
 
-use super::{DATAGRAM, REQUEST, SEGMENT, refuses};
+use super::{SEGMENT, refuses};
 use narc_format::field;
+use narc_samples::{ARP_REQUEST, DATAGRAM};
 
 /// Where a frame of IPv4 is refused that ends behind so many octets: the field, and its place.
 fn refused_at(octets: usize) -> (u8, u64) {
@@ -19,18 +20,18 @@ fn refused_at(octets: usize) -> (u8, u64) {
 #[test]
 fn a_frame_of_arp_that_ends_early_is_refused(rt: HostRuntime) {
     assert!(rt; refuses(&[], field::ETHERNET_DESTINATION, 0));
-    assert!(rt; refuses(&REQUEST[..5], field::ETHERNET_DESTINATION, 0));
-    assert!(rt; refuses(&REQUEST[..11], field::ETHERNET_SOURCE, 6));
-    assert!(rt; refuses(&REQUEST[..13], field::ETHERNET_TYPE, 12));
-    assert!(rt; refuses(&REQUEST[..15], field::ARP_HARDWARE, 14));
-    assert!(rt; refuses(&REQUEST[..17], field::ARP_PROTOCOL, 16));
-    assert!(rt; refuses(&REQUEST[..18], field::ARP_HARDWARE_SIZE, 18));
-    assert!(rt; refuses(&REQUEST[..19], field::ARP_PROTOCOL_SIZE, 19));
-    assert!(rt; refuses(&REQUEST[..21], field::ARP_OPERATION, 20));
-    assert!(rt; refuses(&REQUEST[..27], field::ARP_SENDER_HARDWARE, 22));
-    assert!(rt; refuses(&REQUEST[..31], field::ARP_SENDER_PROTOCOL, 28));
-    assert!(rt; refuses(&REQUEST[..37], field::ARP_TARGET_HARDWARE, 32));
-    assert!(rt; refuses(&REQUEST[..41], field::ARP_TARGET_PROTOCOL, 38));
+    assert!(rt; refuses(&ARP_REQUEST[..5], field::ETHERNET_DESTINATION, 0));
+    assert!(rt; refuses(&ARP_REQUEST[..11], field::ETHERNET_SOURCE, 6));
+    assert!(rt; refuses(&ARP_REQUEST[..13], field::ETHERNET_TYPE, 12));
+    assert!(rt; refuses(&ARP_REQUEST[..15], field::ARP_HARDWARE, 14));
+    assert!(rt; refuses(&ARP_REQUEST[..17], field::ARP_PROTOCOL, 16));
+    assert!(rt; refuses(&ARP_REQUEST[..18], field::ARP_HARDWARE_SIZE, 18));
+    assert!(rt; refuses(&ARP_REQUEST[..19], field::ARP_PROTOCOL_SIZE, 19));
+    assert!(rt; refuses(&ARP_REQUEST[..21], field::ARP_OPERATION, 20));
+    assert!(rt; refuses(&ARP_REQUEST[..27], field::ARP_SENDER_HARDWARE, 22));
+    assert!(rt; refuses(&ARP_REQUEST[..31], field::ARP_SENDER_PROTOCOL, 28));
+    assert!(rt; refuses(&ARP_REQUEST[..37], field::ARP_TARGET_HARDWARE, 32));
+    assert!(rt; refuses(&ARP_REQUEST[..41], field::ARP_TARGET_PROTOCOL, 38));
 }
 
 #[test]

@@ -1,41 +1,18 @@
 //! Frames and the packets that they are frames of.
 ghost use Rattle.std.specs.Prelude.{◌≡◌, ◌≤◌, length};
 
-use super::{DATAGRAM, REQUEST, SEGMENT, datagram_with, decode, packet_of, refuses, request_with};
+use super::{
+    SEGMENT, connection_request, datagram, datagram_with, ipv4_of, is_frame_of, packet_of, refuses,
+    request, request_with,
+};
 use narc_format::field;
-use narc_packet::{Arp, EthBody, IpBody, IpOptions, Ipv4, Packet, Tcp, TcpOptions, Udp};
-
-/// The packet of the ARP request.
-fn request() -> Packet<'static> {
-    Packet {
-        dst: [2, 0, 0, 0, 0, 0xaa],
-        src: [2, 0, 0, 0, 0, 0xbb],
-        body: EthBody::Arp(Arp {
-            op: 1,
-            sender_mac: [2, 0, 0, 0, 0, 0xbb],
-            sender_ip: [10, 0, 0, 1],
-            target_mac: [0; 6],
-            target_ip: [10, 0, 0, 2],
-        }),
-    }
-}
-
-/// The packet of a datagram of these options, source port and data.
-fn datagram<'a>(options: &'a [u8], sport: u16, payload: &'a [u8]) -> Packet<'a> {
-    packet_of(
-        options,
-        IpBody::Udp(Udp {
-            sport,
-            dport: 2,
-            payload,
-        }),
-    )
-}
+use narc_packet::{EthBody, IpBody, Ipv4, Udp};
+use narc_samples::{ARP_REQUEST, CONNECTION_REQUEST, DATAGRAM, ODD_DATAGRAM, UNREAD_TYPE};
 
 #[test]
 fn an_arp_packet_is_read_with_any_padding_and_without(rt: HostRuntime) {
-    assert!(rt; decode(&REQUEST) == Ok(request()));
-    assert!(rt; decode(&REQUEST[..42]) == Ok(request()));
+    assert!(rt; is_frame_of(&ARP_REQUEST, &request()));
+    assert!(rt; is_frame_of(&ARP_REQUEST[..42], &request()));
 }
 
 #[test]
@@ -48,21 +25,16 @@ fn an_arp_packet_of_other_networks_is_refused(rt: HostRuntime) {
 
 #[test]
 fn data_of_another_type_is_kept_unread(rt: HostRuntime) {
-    let frame = [2, 0, 0, 0, 0, 0xaa, 2, 0, 0, 0, 0, 0xbb, 0x88, 0xb5, 0];
-    let packet = Packet {
-        dst: [2, 0, 0, 0, 0, 0xaa],
-        src: [2, 0, 0, 0, 0, 0xbb],
-        body: EthBody::Other {
-            ether_type: 0x88b5,
-            payload: &[0],
-        },
-    };
-    assert!(rt; decode(&frame) == Ok(packet));
+    let packet = packet_of(EthBody::Other {
+        ether_type: 0x88b5,
+        payload: &[0],
+    });
+    assert!(rt; is_frame_of(&UNREAD_TYPE, &packet));
 }
 
 #[test]
 fn a_datagram_is_read(rt: HostRuntime) {
-    assert!(rt; decode(&DATAGRAM) == Ok(datagram(&[], 1, &[])));
+    assert!(rt; is_frame_of(&DATAGRAM, &datagram(&[], 1, &[])));
 }
 
 #[test]
@@ -70,24 +42,19 @@ fn either_zero_of_a_header_checksum_is_read(rt: HostRuntime) {
     let mut frame = DATAGRAM;
     frame[18] = 0x66;
     frame[19] = 0xcf;
+    let udp = Udp {
+        sport: 1,
+        dport: 2,
+        payload: &[],
+    };
+    let packet = packet_of(EthBody::Ip(Ipv4 {
+        id: 0x66cf,
+        ..ipv4_of(&[], IpBody::Udp(udp))
+    }));
     for sum in [0, 0xff] {
         frame[24] = sum;
         frame[25] = sum;
-        let packet = match decode(&frame) {
-            Ok(
-                Packet {
-                    body: EthBody::Ip(packet),
-                    ..
-                },
-            ) => Some((packet.id, packet.body)),
-            _ => None,
-        };
-        let udp = Udp {
-            sport: 1,
-            dport: 2,
-            payload: &[],
-        };
-        assert!(rt; packet == Some((0x66cf, IpBody::Udp(udp))));
+        assert!(rt; is_frame_of(&frame, &packet));
     }
 }
 
@@ -99,7 +66,7 @@ fn a_datagram_is_read_without_a_checksum_and_with_all_ones(rt: HostRuntime) {
     for sum in [0, 0xff] {
         frame[40] = sum;
         frame[41] = sum;
-        assert!(rt; decode(&frame) == Ok(datagram(&[], 60377, &[])));
+        assert!(rt; is_frame_of(&frame, &datagram(&[], 60377, &[])));
     }
 }
 
@@ -140,9 +107,9 @@ fn datagram_behind(area: [u8; 4], high: u8, low: u8) -> [u8; 46] {
 #[test]
 fn options_of_ipv4_are_read_up_to_their_end(rt: HostRuntime) {
     let alert = datagram_behind([0x94, 4, 0, 0], 0xd1, 0xc6);
-    assert!(rt; decode(&alert) == Ok(datagram(&[0x94, 4, 0, 0], 1, &[])));
+    assert!(rt; is_frame_of(&alert, &datagram(&[0x94, 4, 0, 0], 1, &[])));
     let stamp = datagram_behind([1, 0x44, 3, 0], 0x61, 0x87);
-    assert!(rt; decode(&stamp) == Ok(datagram(&[1, 0x44, 3, 0], 1, &[])));
+    assert!(rt; is_frame_of(&stamp, &datagram(&[1, 0x44, 3, 0], 1, &[])));
     assert!(rt;
         refuses(
             &datagram_behind([1, 1, 1, 0x44], 0x61, 0x87),
@@ -166,7 +133,7 @@ fn octets_behind_the_end_of_the_options_are_free(rt: HostRuntime) {
     frame[24] = 0xb1;
     frame[25] = 0x52;
     frame[34] = 0;
-    assert!(rt; decode(&frame) == Ok(datagram(&[], 1, &[])));
+    assert!(rt; is_frame_of(&frame, &datagram(&[], 1, &[])));
 }
 
 #[test]
@@ -174,66 +141,31 @@ fn data_of_a_fragment_is_kept_unread(rt: HostRuntime) {
     let mut frame = DATAGRAM;
     frame[20] = 0x20;
     frame[24] = 0x46;
-    let body = match decode(&frame) {
-        Ok(
-            Packet {
-                body: EthBody::Ip(packet),
-                ..
-            },
-        ) => Some((packet.mf, packet.body)),
-        _ => None,
-    };
     let raw = IpBody::Raw {
         protocol: 17,
         payload: &[0, 1, 0, 2, 0, 8, 0xeb, 0xd8],
     };
-    assert!(rt; body == Some((true, raw)));
-}
-
-/// The segment of a connection request with these options.
-fn connection_request(options: &[u8]) -> IpBody<'_> {
-    IpBody::Tcp(Tcp {
-        sport: 1025,
-        dport: 80,
-        seq: 1,
-        ack: 0,
-        reserved: 0,
-        flags: 2,
-        window: 8192,
-        urgent: 0,
-        options: TcpOptions { spelled: options },
-        payload: &[],
-    })
+    let packet = packet_of(EthBody::Ip(Ipv4 {
+        mf: true,
+        ..ipv4_of(&[], raw)
+    }));
+    assert!(rt; is_frame_of(&frame, &packet));
 }
 
 #[test]
 fn a_segment_is_read_without_the_padding_behind_it(rt: HostRuntime) {
-    let frame = [
-        2, 0, 0, 0, 0, 0xaa, 2, 0, 0, 0, 0, 0xbb, 8, 0, // Ethernet
-        0x45, 0, 0, 44, 0, 0, 0, 0, 64, 6, 0x66, 0xca, 10, 0, 0, 1, 10, 0, 0, 2, // IPv4
-        4, 1, 0, 80, 0, 0, 0, 1, 0, 0, 0, 0, 0x60, 2, 0x20, 0, 0x5f, 0xd2, 0, 0, // TCP
-        2, 4, 5, 0xb4, // maximum segment size
-        0, 0, // padding
-    ];
-    let packet = packet_of(&[], connection_request(&[2, 4, 5, 0xb4]));
-    assert!(rt; decode(&frame) == Ok(packet));
+    let request = connection_request(&[2, 4, 5, 0xb4]);
+    let packet = packet_of(EthBody::Ip(ipv4_of(&[], request)));
+    assert!(rt; is_frame_of(&CONNECTION_REQUEST, &packet));
 }
 
 #[test]
 fn a_segment_is_read_with_its_options(rt: HostRuntime) {
-    let packet = match packet_of(&[], connection_request(&SEGMENT[54..])) {
-        Packet {
-            dst,
-            src,
-            body: EthBody::Ip(packet),
-        } => Packet {
-            dst,
-            src,
-            body: EthBody::Ip(Ipv4 { df: true, ..packet }),
-        },
-        other => other,
-    };
-    assert!(rt; decode(&SEGMENT) == Ok(packet));
+    let packet = packet_of(EthBody::Ip(Ipv4 {
+        df: true,
+        ..ipv4_of(&[], connection_request(&SEGMENT[54..]))
+    }));
+    assert!(rt; is_frame_of(&SEGMENT, &packet));
 }
 
 /// The datagram's frame with 2 octets behind it, of this total length, UDP length and checksums.
@@ -260,20 +192,15 @@ fn datagram_before(
 
 #[test]
 fn an_odd_octet_of_data_is_summed(rt: HostRuntime) {
-    let frame = [
-        2, 0, 0, 0, 0, 0xaa, 2, 0, 0, 0, 0, 0xbb, 8, 0, // Ethernet
-        0x45, 0, 0, 29, 0, 0, 0, 0, 64, 17, 0x66, 0xce, 10, 0, 0, 1, 10, 0, 0, 2, // IPv4
-        0, 1, 0, 2, 0, 9, 0xec, 0xd5, 0xff, // UDP
-    ];
-    assert!(rt; decode(&frame) == Ok(datagram(&[], 1, &[0xff])));
+    assert!(rt; is_frame_of(&ODD_DATAGRAM, &datagram(&[], 1, &[0xff])));
     let padded = datagram_before([0xff, 0], 29, 0xce, 9, [0xec, 0xd5]);
-    assert!(rt; decode(&padded) == Ok(datagram(&[], 1, &[0xff])));
+    assert!(rt; is_frame_of(&padded, &datagram(&[], 1, &[0xff])));
 }
 
 #[test]
 fn octets_behind_a_datagram_are_free(rt: HostRuntime) {
     let frame = datagram_before([0xbe, 0xef], 30, 0xcd, 8, [0xeb, 0xd8]);
-    assert!(rt; decode(&frame) == Ok(datagram(&[], 1, &[])));
+    assert!(rt; is_frame_of(&frame, &datagram(&[], 1, &[])));
 }
 
 #[test]

@@ -1,4 +1,5 @@
 //! The types that frames and their parts are built of.
+use crate::ipv4_part::Ipv4PartTail;
 use crate::{
     AsIpv4, AsPacket, ByIpv4, ByTcp, ByType, ByUdp, ContentOctets, ContentOf, Frame, IpContent,
     Ipv4Format, Ipv4Part, OctetsThere, ShortestFrame, TypeOfHeader, ZerosBehind,
@@ -7,11 +8,9 @@ use narc_compose::{Measured, Parted, SeqTail, Strip, Union};
 use narc_eth::{ArpFormat, EthHead};
 use narc_ipv4::IpHead;
 use narc_list::{Bytes, Pad, Region};
+use narc_samples::are_one;
 use narc_transport::{TcpPart, UdpPart};
 use std::marker::PhantomData;
-
-/// Both are of one type.
-fn are_one<T>(_alias: PhantomData<T>, _written: PhantomData<T>) {}
 
 #[test]
 fn a_frame_is_a_header_and_what_its_type_says(_rt: HostRuntime) {
@@ -59,5 +58,13 @@ fn data_is_a_datagram_or_a_segment_or_unread(_rt: HostRuntime) {
     are_one(
         PhantomData::<IpContent>,
         PhantomData::<Union<ByUdp, Parted<UdpPart>, Union<ByTcp, Parted<TcpPart>, Bytes>>>,
+    );
+}
+
+#[test]
+fn a_part_hands_on_to_ipv4_packets(_rt: HostRuntime) {
+    are_one(
+        PhantomData::<Ipv4PartTail<'static>>,
+        PhantomData::<Ipv4Format<'static>>,
     );
 }
