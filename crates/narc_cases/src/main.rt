@@ -1,17 +1,14 @@
 //! Runs each case of a list as the command does, and tells whether its output and its status are the listed ones.
 #![tactic(auto)]
 
-ghost use Rattle.std.specs.Prelude.{◌≡◌};
-
 use anyhow::Result;
-use narc_bits::Steps;
-use narc_run::{Outcome, run};
-use narc_world::{MemorySink, Sink, Source, StdSource, Words};
+use narc_run::run_counted;
+use narc_world::{MemorySink, StdSource, Words};
 use std::alloc::Global;
 use std::fs;
 use std::marker::Brand;
 use std::rt::Files;
-use std::sync::ledger::{Blank, Ledger};
+use std::sync::ledger::Blank;
 
 /// The most octets that a case may write.
 const CAPACITY: usize = 1_000_000;
@@ -46,21 +43,6 @@ fn words_of(alloc: Global, line: &str) -> Result<Words> {
         words.add(word)?;
     }
     Ok(words)
-}
-
-fn run_counted<S: Source, K: Sink, L: Ledger>(
-    alloc: Global,
-    words: &Words,
-    source: &mut S,
-    sink: &mut K,
-    blank: Blank,
-) -> Outcome
-    requires name { blank.name ≡ L.name }
-    requires parts { blank.parts ≡ L.parts }
-    requires one { blank.parts ≡ 1 }
-{
-    let mut steps = Steps::<L>::new(blank);
-    run(alloc, words, source, sink, &mut steps)
 }
 
 /// Whether the command ends with the status of the case, and writes its output.

@@ -1,5 +1,5 @@
 -- How a job ends that reads a capture, by what was read of it and found so far.
-use Rattle.std.proofs.Common.{◌≡◌, ℕ, ◌+◌, ◌<◌, ◌≤◌, ◌⊎◌, inl, inr, false, List, [], ◌∷◌, ◌++◌, length, take, drop, Option, Some, None, Result, Ok, Err, refl, sym, ap, ◌∙◌, subst, append_assoc, append-nil, zero-add, arith, length-append, length-take}
+use Rattle.std.proofs.Common.{◌≡◌, ℕ, ◌+◌, ◌≤◌, ◌⊎◌, inl, inr, false, List, [], ◌∷◌, ◌++◌, length, take, drop, Option, Some, None, Result, Ok, Err, refl, sym, ap, ◌∙◌, subst, append_assoc, zero-add, arith, length-append, length-take}
 use Rattle.std.specs.Prelude.{IsTrue, sum_by}
 use Rattle.std.proofs.lemmas.List.{length-take-le, take-append-drop}
 use Rattle.narc_bits.specs.declared.limits.TheConstants.{MAX_FRAME}
@@ -27,7 +27,7 @@ use Rattle.narc_run.proofs.FrameAnswers.{no_findings}
 use Rattle.narc_run.proofs.Walks.{Walks, Walks-start, Walks-end, ReadSoFar, entries_of, cost}
 
 abbrev pub found_of : List Told → Findings
-found_of told = record { frame = no_findings.frame; records = told }
+found_of told = record no_findings { records = told }
 
 -- ---- a capture that is its header, these records and this end
 

@@ -1,5 +1,5 @@
 -- What contracts see of the judgement of a record: its answer without the packet.
-use Rattle.std.specs.Prelude.{◌≡◌, ℕ, List, Option, Some, None, Result}
+use Rattle.std.specs.Prelude.{◌≡◌, Option, Some, None, Result}
 use Rattle.narc_format.specs.Rows.{RefusalView}
 use Rattle.narc_packet.specs.Answer.{Answer}
 use Rattle.narc_stack.specs.declared.refusal.Refusal.{Refusal}

@@ -1,12 +1,13 @@
 //! The job `check`: how many packets and refusals a capture has.
-ghost use Rattle.std.specs.Prelude.{◌≡◌, ◌+◌, ◌*◌, ◌-◌, ◌≤◌, ◌++◌, ◌∷◌, [], codes, decimal, length, IfOk, OnErr};
-ghost use Rattle.narc_world.specs.Outside.{CountsFaults, Rose};
+ghost use Rattle.std.specs.Prelude.{◌≡◌, ◌+◌, ◌*◌, ◌-◌, ◌≤◌, ◌++◌, ◌∷◌, [], decimal, length, IfOk, OnErr};
+ghost use Rattle.narc_world.specs.Outside.{CountsFaults};
 ghost use Rattle.narc_format.specs.declared.field.TheConstants.{COUNT};
 ghost use Rattle.narc_run.specs.Job.{Check};
 ghost use Rattle.narc_run.specs.Output.{check_end, refused_line};
 ghost use Rattle.narc_run.specs.Verdict.{end_verdict};
 ghost use Rattle.narc_run.specs.Counting.{counts_lines, counts_status, refusal_lines};
 ghost use Rattle.narc_run.specs.CaptureRun.{CaptureRun, EndsCapture, IsShown};
+ghost use Rattle.narc_run.specs.Run.{AreCounted};
 
 use crate::counts::{Counts, NUMBERS};
 use crate::entry::judge_record;
@@ -14,7 +15,7 @@ use crate::outcome::Outcome;
 use narc_bits::Steps;
 use narc_format::{Field, field};
 use narc_pcap::{End, LONGEST_RECORD, Next, Reader, Started};
-use narc_text::{Page, put_decimal};
+use narc_text::{PAGE_SIZE, Page, put_decimal};
 use narc_world::{Failed, Sink, Source};
 use std::sync::ledger::Ledger;
 
@@ -27,7 +28,7 @@ const REFUSALS: usize = NUMBERS * LINE;
 /// A word with a space behind it, and a number.
 fn put_line(word: &[u8], number: u64, page: &mut Page)
     requires few { length word.now ≤ 40 }
-    requires room { length page.old + LINE ≤ 65536 }
+    requires room { length page.old + LINE ≤ PAGE_SIZE }
     ensures value { page.new ≡ page.old ++ (word.now ++ (decimal number ++ 10 ∷ [])) }
     ensures bound { length page.new ≤ length page.old + LINE }
 {
@@ -39,7 +40,7 @@ fn put_line(word: &[u8], number: u64, page: &mut Page)
 /// The line of a field with so many refusals, where there are any.
 fn put_refused(number: u8, count: u64, page: &mut Page)
     requires field { number ≤ COUNT }
-    requires room { length page.old + LINE ≤ 65536 }
+    requires room { length page.old + LINE ≤ PAGE_SIZE }
     ensures value { page.new ≡ page.old ++ refused_line number count }
     ensures bound { length page.new ≤ length page.old + LINE }
 {
@@ -55,7 +56,7 @@ fn put_refused(number: u8, count: u64, page: &mut Page)
 
 /// The lines of the fields with a refusal, in the order of their numbers.
 fn put_refusals(refused: &[u64; NUMBERS], page: &mut Page)
-    requires { length page.old + REFUSALS ≤ 65536 }
+    requires { length page.old + REFUSALS ≤ PAGE_SIZE }
     ensures value { page.new ≡ page.old ++ refusal_lines refused.now COUNT }
     ensures bound { length page.new ≤ length page.old + REFUSALS }
 {
@@ -67,7 +68,7 @@ fn put_refusals(refused: &[u64; NUMBERS], page: &mut Page)
 
 /// The last line.
 fn put_end(records: u64, end: End, page: &mut Page)
-    requires { length page.old + LINE ≤ 65536 }
+    requires { length page.old + LINE ≤ PAGE_SIZE }
     ensures { page.new ≡ page.old ++ check_end records end }
 {
     match end {
@@ -79,7 +80,7 @@ fn put_end(records: u64, end: End, page: &mut Page)
 
 /// All lines.
 fn put_counts(counts: &Counts, end: End, page: &mut Page)
-    requires { length page.old + 2 * REFUSALS ≤ 65536 }
+    requires { length page.old + 2 * REFUSALS ≤ PAGE_SIZE }
     ensures { page.new ≡ page.old ++ counts_lines counts.now.tally counts.now.refused end }
 {
     put_line(b"packets ", counts.tally.packets, page);
@@ -108,8 +109,7 @@ fn check<S: Source, K: Sink, L: Ledger>(
 ) -> Result<Outcome, Failed>
     requires { LONGEST_RECORD ≤ length input.items }
     ensures run { CaptureRun Check (S.left source.old) (S.left source.new) (K.held sink.old) (K.held sink.new) steps.old steps.new result }
-    ensures source_later { S.faults source.old ≤ S.faults source.new }
-    ensures source_cause { IfOk result (λ outcome. outcome.status ≡ 5 → Rose (S.faults source.old) (S.faults source.new)) }
+    ensures source_faults { CountsFaults (λ rose. IfOk result (λ outcome. outcome.status ≡ 5 → rose)) (S.faults source.old) (S.faults source.new) }
     ensures status { IfOk result (λ outcome. (outcome.status ≡ 6 → ⊥) × (outcome.status ≤ 7)) }
     ensures sink_faults { CountsFaults (OnErr result) (K.faults sink.old) (K.faults sink.new) }
 {
@@ -143,10 +143,7 @@ pub(crate) fn run_check<S: Source, K: Sink, L: Ledger>(
     requires { LONGEST_RECORD ≤ length input.items }
     ensures run { EndsCapture Check (S.left source.old) (S.left source.new) (K.held sink.old) (K.held sink.new) steps.old steps.new result }
     ensures status { result.status ≤ 7 }
-    ensures source_later { S.faults source.old ≤ S.faults source.new }
-    ensures sink_later { K.faults sink.old ≤ K.faults sink.new }
-    ensures source_cause { result.status ≡ 5 → Rose (S.faults source.old) (S.faults source.new) }
-    ensures sink_cause { result.status ≡ 6 → Rose (K.faults sink.old) (K.faults sink.new) × (result.at ≡ 0) }
+    ensures faults { AreCounted result.status result.at (S.faults source.old) (S.faults source.new) (K.faults sink.old) (K.faults sink.new) }
 {
     match check(input, source, sink, steps) {
         Ok(outcome) => outcome,

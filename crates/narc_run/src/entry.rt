@@ -1,6 +1,7 @@
 //! A record of a capture: its answer, and its line.
-ghost use Rattle.std.specs.Prelude.{◌≡◌, ◌+◌, ◌≤◌, ◌++◌, length, OnErr};
+ghost use Rattle.std.specs.Prelude.{◌≡◌, ◌+◌, ◌≤◌, ◌++◌, length, IsTrue, IsFalse, IfSome, IfNone, OnErr};
 ghost use Rattle.narc_world.specs.Outside.{CountsFaults};
+ghost use Rattle.narc_pcap.specs.Capture.{is_snapped};
 ghost use Rattle.narc_text.specs.CaptureText.{entry_front, snapped_line};
 ghost use Rattle.narc_text.specs.Printing.{IsPrinted};
 ghost use Rattle.narc_run.specs.EntryAnswer.{entry_answer};
@@ -13,18 +14,27 @@ use narc_bits::{MAX_FRAME, Steps};
 use narc_packet::Packet;
 use narc_pcap::Record;
 use narc_stack::{Refusal, decode_frame, judge_frame};
-use narc_text::{Page, put_decimal};
+use narc_text::{LINE, PAGE_SIZE, Page, put_decimal};
 use narc_world::{Failed, Sink};
 use std::sync::ledger::Ledger;
 
 /// The answer for the frame of a record; none where the capture shortened it.
 pub(crate) type Answered<'a> = Option<Result<Packet<'a>, Refusal>>;
 
-/// More octets than a line of numbers has.
-const LINE: usize = 128;
-
 /// The same without the packet.
 pub(crate) type Judged = Option<Result<(), Refusal>>;
+
+/// The frame of a record, of which these octets follow its header; none where the capture shortened it.
+fn whole_frame<'a>(record: &Record, octets: &'a [u8]) -> Option<&'a [u8]>
+    ensures snapped { IfNone result (IsTrue (is_snapped record.now)) }
+    ensures whole { IfSome result (λ frame. IsFalse (is_snapped record.now) × (frame.now ≡ octets.now)) }
+{
+    if record.captured < record.original {
+        None
+    } else {
+        Some(octets)
+    }
+}
 
 /// The answer for a record with this frame.
 pub(crate) fn answer_record<'a, L: Ledger>(
@@ -36,11 +46,8 @@ pub(crate) fn answer_record<'a, L: Ledger>(
     ensures answer { IsEntryAnswer (record { head = record.now; octets = octets.now }) (entry_answer result) }
     ensures cost { steps.new ≤ steps.old + entry_cost (record { head = record.now; octets = octets.now }) }
 {
-    if record.captured < record.original {
-        None
-    } else {
-        Some(decode_frame(octets, steps))
-    }
+    let frame = whole_frame(record, octets)?;
+    Some(decode_frame(frame, steps))
 }
 
 /// The judgement of a record with this frame.
@@ -53,11 +60,8 @@ pub(crate) fn judge_record<L: Ledger>(
     ensures judged { IsEntryJudgement (record { head = record.now; octets = octets.now }) result }
     ensures cost { steps.new ≤ steps.old + entry_cost (record { head = record.now; octets = octets.now }) }
 {
-    if record.captured < record.original {
-        None
-    } else {
-        Some(judge_frame(octets, steps))
-    }
+    let frame = whole_frame(record, octets)?;
+    Some(judge_frame(frame, steps))
 }
 
 /// The line of a snapped record, behind its front.
@@ -76,7 +80,7 @@ fn print_snapped<K: Sink>(record: &Record, page: &mut Page, sink: &mut K) -> Res
 
 /// The front of a record's line.
 fn put_front(record: &Record, page: &mut Page)
-    requires { length page.old + LINE ≤ 65536 }
+    requires { length page.old + LINE ≤ PAGE_SIZE }
     ensures { page.new ≡ page.old ++ entry_front record.now.sec record.now.sub }
 {
     page.put(b"rec ");

@@ -1,12 +1,13 @@
 //! The job `frame`: one raw frame, the whole input.
 ghost use Rattle.std.specs.Prelude.{◌≡◌, ◌+◌, ◌*◌, ◌≤◌, length, IfOk, MatchResult, OnErr};
-ghost use Rattle.narc_world.specs.Outside.{CountsFaults, IsPushed, Rose};
+ghost use Rattle.narc_world.specs.Outside.{CountsFaults, IsPushed};
 ghost use Rattle.narc_stack.specs.AnswerView.{answer_view};
 ghost use Rattle.narc_packet.specs.PacketView.{view};
 ghost use Rattle.narc_text.specs.Lines.{ok_line};
 ghost use Rattle.narc_text.specs.Printing.{IsPrinted};
 ghost use Rattle.narc_run.specs.Output.{answer_line, refusal_line};
 ghost use Rattle.narc_run.specs.FrameRun.{FrameRun, IsAnswered, IsCut};
+ghost use Rattle.narc_run.specs.Run.{AreCounted};
 
 use crate::input::{Filled, fill};
 use crate::outcome::Outcome;
@@ -102,10 +103,7 @@ pub(crate) fn run_frame<S: Source, K: Sink, L: Ledger>(
     requires { length buffer.old ≡ FRAME_BUFFER }
     ensures run { FrameRun (S.left source.old) (S.left source.new) (K.held sink.old) (K.held sink.new) steps.old steps.new result.status result.at }
     ensures status { result.status ≤ 6 }
-    ensures source_later { S.faults source.old ≤ S.faults source.new }
-    ensures sink_later { K.faults sink.old ≤ K.faults sink.new }
-    ensures source_cause { result.status ≡ 5 → Rose (S.faults source.old) (S.faults source.new) }
-    ensures sink_cause { result.status ≡ 6 → Rose (K.faults sink.old) (K.faults sink.new) }
+    ensures faults { AreCounted result.status result.at (S.faults source.old) (S.faults source.new) (K.faults sink.old) (K.faults sink.new) }
 {
     match fill(buffer, source) {
         Filled::Failed(count) => Outcome::source_fault(count as u64),

@@ -1,5 +1,5 @@
 //! The whole input of a job, in a buffer.
-ghost use Rattle.std.specs.Prelude.{◌≡◌, ◌≤◌, length};
+ghost use Rattle.std.specs.Prelude.{◌≡◌, length};
 ghost use Rattle.narc_world.specs.Outside.{CountsFaults};
 ghost use Rattle.narc_run.specs.Filling.{IsFilled, FaultOf};
 

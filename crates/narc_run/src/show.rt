@@ -1,25 +1,22 @@
 //! The job `show`: a capture as text, record by record.
-ghost use Rattle.std.specs.Prelude.{◌≡◌, ◌+◌, ◌*◌, ◌≤◌, ◌++◌, [], length, IfOk, OnErr};
-ghost use Rattle.narc_world.specs.Outside.{CountsFaults, Rose};
+ghost use Rattle.std.specs.Prelude.{◌≡◌, ◌+◌, ◌≤◌, ◌++◌, [], length, IfOk, OnErr};
+ghost use Rattle.narc_world.specs.Outside.{CountsFaults};
 ghost use Rattle.narc_text.specs.Printing.{IsPrinted};
 ghost use Rattle.narc_run.specs.Job.{Show};
 ghost use Rattle.narc_run.specs.Output.{header_line};
-ghost use Rattle.narc_run.specs.Run.{WroteFront};
 ghost use Rattle.narc_run.specs.Tallies.{tally_line};
 ghost use Rattle.narc_run.specs.Verdict.{end_verdict};
 ghost use Rattle.narc_run.specs.CaptureRun.{CaptureRun, EndsCapture, IsShown};
+ghost use Rattle.narc_run.specs.Run.{AreCounted};
 
 use crate::entry::{answer_record, print_record};
 use crate::outcome::Outcome;
 use crate::tally::Tally;
 use narc_bits::Steps;
 use narc_pcap::{End, Header, LONGEST_RECORD, Next, Reader, Started, Unit};
-use narc_text::{Page, put_decimal};
+use narc_text::{LINE, PAGE_SIZE, Page, put_decimal};
 use narc_world::{Failed, Sink, Source};
 use std::sync::ledger::Ledger;
-
-/// More octets than a line of numbers has.
-const LINE: usize = 128;
 
 /// The line of a capture's header.
 fn print_header<K: Sink>(header: &Header, page: &mut Page, sink: &mut K) -> Result<(), Failed>
@@ -32,7 +29,7 @@ fn print_header<K: Sink>(header: &Header, page: &mut Page, sink: &mut K) -> Resu
 }
 
 fn put_header(header: &Header, page: &mut Page)
-    requires { length page.old + LINE ≤ 65536 }
+    requires { length page.old + LINE ≤ PAGE_SIZE }
     ensures { page.new ≡ page.old ++ header_line header.now }
 {
     match header.unit {
@@ -45,7 +42,7 @@ fn put_header(header: &Header, page: &mut Page)
 
 /// The last line of a capture.
 fn put_end(end: End, tally: &Tally, page: &mut Page)
-    requires { length page.old + LINE ≤ 65536 }
+    requires { length page.old + LINE ≤ PAGE_SIZE }
     ensures { page.new ≡ page.old ++ tally_line tally.now end }
 {
     match end {
@@ -64,7 +61,7 @@ fn put_end(end: End, tally: &Tally, page: &mut Page)
 }
 
 fn put_counts(tally: &Tally, page: &mut Page)
-    requires { length page.old + LINE ≤ 65536 }
+    requires { length page.old + LINE ≤ PAGE_SIZE }
     ensures { page.new ≡ page.old ++ tally_line tally.now End.Clean }
 {
     page.put(b"end ");
@@ -123,8 +120,7 @@ fn show<S: Source, K: Sink, L: Ledger>(
 ) -> Result<Outcome, Failed>
     requires { LONGEST_RECORD ≤ length input.items }
     ensures run { CaptureRun Show (S.left source.old) (S.left source.new) (K.held sink.old) (K.held sink.new) steps.old steps.new result }
-    ensures source_later { S.faults source.old ≤ S.faults source.new }
-    ensures source_cause { IfOk result (λ outcome. outcome.status ≡ 5 → Rose (S.faults source.old) (S.faults source.new)) }
+    ensures source_faults { CountsFaults (λ rose. IfOk result (λ outcome. outcome.status ≡ 5 → rose)) (S.faults source.old) (S.faults source.new) }
     ensures status { IfOk result (λ outcome. (outcome.status ≡ 6 → ⊥) × (outcome.status ≤ 7)) }
     ensures sink_faults { CountsFaults (OnErr result) (K.faults sink.old) (K.faults sink.new) }
 {
@@ -167,10 +163,7 @@ pub(crate) fn run_show<S: Source, K: Sink, L: Ledger>(
     requires { LONGEST_RECORD ≤ length input.items }
     ensures run { EndsCapture Show (S.left source.old) (S.left source.new) (K.held sink.old) (K.held sink.new) steps.old steps.new result }
     ensures status { result.status ≤ 7 }
-    ensures source_later { S.faults source.old ≤ S.faults source.new }
-    ensures sink_later { K.faults sink.old ≤ K.faults sink.new }
-    ensures source_cause { result.status ≡ 5 → Rose (S.faults source.old) (S.faults source.new) }
-    ensures sink_cause { result.status ≡ 6 → Rose (K.faults sink.old) (K.faults sink.new) × (result.at ≡ 0) }
+    ensures faults { AreCounted result.status result.at (S.faults source.old) (S.faults source.new) (K.faults sink.old) (K.faults sink.new) }
 {
     match show(input, source, sink, steps) {
         Ok(outcome) => outcome,

@@ -1,5 +1,5 @@
 //! The answer to words that are no job.
-ghost use Rattle.std.specs.Prelude.{◌≡◌, OnErr};
+ghost use Rattle.std.specs.Prelude.{OnErr};
 ghost use Rattle.narc_world.specs.Outside.{CountsFaults, IsPushed};
 ghost use Rattle.narc_run.specs.Output.{usage_line};
 

@@ -1,9 +1,9 @@
 //! The text of a header's options.
-ghost use Rattle.std.specs.Prelude.{◌≡◌, ◌+◌, ◌*◌, ◌≤◌, ◌++◌, codes, decimal, length, OnErr};
+ghost use Rattle.std.specs.Prelude.{◌+◌, ◌++◌, codes, decimal, OnErr};
 ghost use Rattle.narc_packet.specs.Options.{TcpOther, ip_options_in, tcp_options_in};
 ghost use Rattle.narc_packet.specs.PacketView.{ip_option_view, tcp_option_view};
 ghost use Rattle.narc_packet.specs.TextWords.{ip_option_word, tcp_option_word, ip_options_word, tcp_options_word};
-ghost use Rattle.narc_world.specs.Outside.{Rose};
+ghost use Rattle.narc_world.specs.Outside.{CountsFaults};
 ghost use Rattle.narc_text.specs.Printing.{IsPrinted};
 
 use crate::page::Page;
@@ -17,8 +17,7 @@ const FRONT: usize = 64;
 /// The maximum segment size.
 fn print_size<K: Sink>(size: u16, page: &mut Page, sink: &mut K) -> Result<(), Failed>
     ensures printed { IsPrinted result (codes "mss:" ++ decimal size) page.old page.new (K.held sink.old) (K.held sink.new) }
-    ensures later { K.faults sink.old ≤ K.faults sink.new }
-    ensures cause { OnErr result (Rose (K.faults sink.old) (K.faults sink.new)) }
+    ensures faults { CountsFaults (OnErr result) (K.faults sink.old) (K.faults sink.new) }
 {
     page.make_room(FRONT, sink)?;
     page.put(b"mss:");
@@ -34,8 +33,7 @@ fn print_other<K: Sink>(
     sink: &mut K,
 ) -> Result<(), Failed>
     ensures printed { IsPrinted result (tcp_option_word (TcpOther kind octets.now)) page.old page.new (K.held sink.old) (K.held sink.new) }
-    ensures later { K.faults sink.old ≤ K.faults sink.new }
-    ensures cause { OnErr result (Rose (K.faults sink.old) (K.faults sink.new)) }
+    ensures faults { CountsFaults (OnErr result) (K.faults sink.old) (K.faults sink.new) }
 {
     page.make_room(FRONT, sink)?;
     page.put(b"opt:");
@@ -50,8 +48,7 @@ fn print_ip_option<K: Sink>(
     sink: &mut K,
 ) -> Result<(), Failed>
     ensures printed { IsPrinted result (ip_option_word (ip_option_view option.entry)) page.old page.new (K.held sink.old) (K.held sink.new) }
-    ensures later { K.faults sink.old ≤ K.faults sink.new }
-    ensures cause { OnErr result (Rose (K.faults sink.old) (K.faults sink.new)) }
+    ensures faults { CountsFaults (OnErr result) (K.faults sink.old) (K.faults sink.new) }
 {
     match option {
         IpOption::Nop => print_word(page, b"nop", sink),
@@ -65,8 +62,7 @@ fn print_tcp_option<K: Sink>(
     sink: &mut K,
 ) -> Result<(), Failed>
     ensures printed { IsPrinted result (tcp_option_word (tcp_option_view option.entry)) page.old page.new (K.held sink.old) (K.held sink.new) }
-    ensures later { K.faults sink.old ≤ K.faults sink.new }
-    ensures cause { OnErr result (Rose (K.faults sink.old) (K.faults sink.new)) }
+    ensures faults { CountsFaults (OnErr result) (K.faults sink.old) (K.faults sink.new) }
 {
     match option {
         TcpOption::Nop => print_word(page, b"nop", sink),
@@ -82,8 +78,7 @@ pub(crate) fn print_ip_options<K: Sink>(
     sink: &mut K,
 ) -> Result<(), Failed>
     ensures printed { IsPrinted result (ip_options_word (ip_options_in options.now.spelled.now)) page.old page.new (K.held sink.old) (K.held sink.new) }
-    ensures later { K.faults sink.old ≤ K.faults sink.new }
-    ensures cause { OnErr result (Rose (K.faults sink.old) (K.faults sink.new)) }
+    ensures faults { CountsFaults (OnErr result) (K.faults sink.old) (K.faults sink.new) }
 {
     let mut options = options.iter();
     let Some(first) = options.next() else {
@@ -104,8 +99,7 @@ pub(crate) fn print_tcp_options<K: Sink>(
     sink: &mut K,
 ) -> Result<(), Failed>
     ensures printed { IsPrinted result (tcp_options_word (tcp_options_in options.now.spelled.now)) page.old page.new (K.held sink.old) (K.held sink.new) }
-    ensures later { K.faults sink.old ≤ K.faults sink.new }
-    ensures cause { OnErr result (Rose (K.faults sink.old) (K.faults sink.new)) }
+    ensures faults { CountsFaults (OnErr result) (K.faults sink.old) (K.faults sink.new) }
 {
     let mut options = options.iter();
     let Some(first) = options.next() else {

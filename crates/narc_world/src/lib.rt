@@ -18,7 +18,7 @@ mod words;
 pub use error::{Failed, NoMemory};
 pub use memory_sink::MemorySink;
 pub use memory_source::MemorySource;
-pub use room::{FRAME_BUFFER, INPUT_BUFFER, Room};
+pub use room::{FRAME_BUFFER, INPUT_BUFFER, Room, STORE_BUFFER};
 pub use sink::Sink;
 pub use source::{Pulled, Source};
 pub use std_sink::StdSink;

@@ -89,6 +89,7 @@ fn a_room_has_the_input_and_one_octet_more_than_a_frame(rt: HostRuntime) -> Resu
     let room = Room::new(rt.alloc())?;
     assert_eq!(rt; room.input.len(), 327_680);
     assert_eq!(rt; room.frame.len(), 262_144 + 1);
+    assert_eq!(rt; room.store.len(), 262_144);
     assert!(rt; room.frame.iter().all(|octet| *octet == 0));
     Ok(())
 }

@@ -1,10 +1,11 @@
 //! Single frames.
-use crate::tests::{ARP, ARP_LINE, OTHER, OTHER_LINE, World, end_of, expect_end, zeros};
+use crate::tests::{ARP_LINE, OTHER_LINE, World, end_of, expect_end, zeros};
+use narc_samples::{ARP_REQUEST, DATAGRAM, UNREAD_TYPE};
 use std::test::Fail;
 
 #[test]
 fn a_frame_of_an_unread_type_is_told_whole(rt: HostRuntime) -> Result<(), Fail> {
-    let told = end_of(rt.alloc(), &["frame"], World::of(OTHER))?;
+    let told = end_of(rt.alloc(), &["frame"], World::of(&UNREAD_TYPE))?;
     expect_end(&rt, &told, 0, 0, OTHER_LINE);
     Ok(())
 }
@@ -14,7 +15,7 @@ fn the_size_of_the_pieces_plays_no_part(rt: HostRuntime) -> Result<(), Fail> {
     let pieces = [1; 15];
     let world = World {
         pieces: &pieces,
-        ..World::of(OTHER)
+        ..World::of(&UNREAD_TYPE)
     };
     let told = end_of(rt.alloc(), &["frame"], world)?;
     expect_end(&rt, &told, 0, 0, OTHER_LINE);
@@ -25,7 +26,7 @@ fn the_size_of_the_pieces_plays_no_part(rt: HostRuntime) -> Result<(), Fail> {
 fn the_first_field_that_is_cut_off_is_refused(rt: HostRuntime) -> Result<(), Fail> {
     let nothing = end_of(rt.alloc(), &["frame"], World::of(b""))?;
     expect_end(&rt, &nothing, 1, 0, b"refused ethernet.destination 0\n");
-    let thirteen = end_of(rt.alloc(), &["frame"], World::of(&OTHER[..13]))?;
+    let thirteen = end_of(rt.alloc(), &["frame"], World::of(&UNREAD_TYPE[..13]))?;
     expect_end(&rt, &thirteen, 1, 0, b"refused ethernet.type 12\n");
     Ok(())
 }
@@ -53,13 +54,13 @@ fn the_longest_frame_is_told_and_one_octet_more_is_malformed(rt: HostRuntime) ->
 fn a_failing_pull_ends_the_run_at_the_octets_taken(rt: HostRuntime) -> Result<(), Fail> {
     let at_once = World {
         failing_pulls: &[1],
-        ..World::of(OTHER)
+        ..World::of(&UNREAD_TYPE)
     };
     expect_end(&rt, &end_of(rt.alloc(), &["frame"], at_once)?, 5, 0, b"");
     let later = World {
         pieces: &[4, 5],
         failing_pulls: &[3],
-        ..World::of(OTHER)
+        ..World::of(&UNREAD_TYPE)
     };
     expect_end(&rt, &end_of(rt.alloc(), &["frame"], later)?, 5, 9, b"");
     Ok(())
@@ -69,7 +70,7 @@ fn a_failing_pull_ends_the_run_at_the_octets_taken(rt: HostRuntime) -> Result<()
 fn a_failing_push_leaves_a_front_of_the_line(rt: HostRuntime) -> Result<(), Fail> {
     let world = World {
         failing_pushes: &[1],
-        ..World::of(OTHER)
+        ..World::of(&UNREAD_TYPE)
     };
     let told = end_of(rt.alloc(), &["frame"], world)?;
     assert_eq!(rt; told.outcome.status, 6);
@@ -80,32 +81,30 @@ fn a_failing_push_leaves_a_front_of_the_line(rt: HostRuntime) -> Result<(), Fail
 
 #[test]
 fn the_padding_of_an_arp_packet_plays_no_part(rt: HostRuntime) -> Result<(), Fail> {
-    let padded = end_of(rt.alloc(), &["frame"], World::of(&ARP))?;
+    let padded = end_of(rt.alloc(), &["frame"], World::of(&ARP_REQUEST))?;
     expect_end(&rt, &padded, 0, 0, ARP_LINE);
-    let bare = end_of(rt.alloc(), &["frame"], World::of(&ARP[..42]))?;
+    let bare = end_of(rt.alloc(), &["frame"], World::of(&ARP_REQUEST[..42]))?;
     expect_end(&rt, &bare, 0, 0, ARP_LINE);
     Ok(())
 }
 
 #[test]
 fn an_arp_packet_is_refused_at_its_first_wrong_field(rt: HostRuntime) -> Result<(), Fail> {
-    let mut frame = ARP;
+    let mut frame = ARP_REQUEST;
     frame[15] = 6;
     let hardware = end_of(rt.alloc(), &["frame"], World::of(&frame))?;
     expect_end(&rt, &hardware, 1, 0, b"refused arp.hardware 14\n");
-    let operation = end_of(rt.alloc(), &["frame"], World::of(&ARP[..21]))?;
+    let operation = end_of(rt.alloc(), &["frame"], World::of(&ARP_REQUEST[..21]))?;
     expect_end(&rt, &operation, 1, 0, b"refused arp.operation 20\n");
     Ok(())
 }
 
 #[test]
 fn a_datagram_is_told_and_a_cut_one_refused(rt: HostRuntime) -> Result<(), Fail> {
-    let frame =
-        b"\x02\x00\x00\x00\x00\xaa\x02\x00\x00\x00\x00\xbb\x08\x00\x45\x00\x00\x1c\x00\x00\x00\x00\x40\x11\x66\xcf\x0a\x00\x00\x01\x0a\x00\x00\x02\x00\x01\x00\x02\x00\x08\xeb\xd8";
-    let told = end_of(rt.alloc(), &["frame"], World::of(frame))?;
+    let told = end_of(rt.alloc(), &["frame"], World::of(&DATAGRAM))?;
     let line = b"ok eth 0200000000aa 0200000000bb ip4 0 0 .. 0 64 10.0.0.1 10.0.0.2 - udp 1 2 -\n";
     expect_end(&rt, &told, 0, 0, line);
-    let told = end_of(rt.alloc(), &["frame"], World::of(&frame[..15]))?;
+    let told = end_of(rt.alloc(), &["frame"], World::of(&DATAGRAM[..15]))?;
     expect_end(&rt, &told, 1, 0, b"refused ipv4.tos 15\n");
     Ok(())
 }

@@ -1,4 +1,4 @@
-use Rattle.std.proofs.Common.{◌≡◌, ◌+◌, ◌≤◌, ℕ, List, [], inl, inr, refl, sym, ap, ◌∙◌, subst, length, arith}
+use Rattle.std.proofs.Common.{◌+◌, ◌≤◌, ℕ, List, [], inl, inr, refl, sym, ap, ◌∙◌, subst, length, arith}
 use Rattle.std.specs.Prelude.{OnErr}
 use Rattle.narc_world.specs.Outside.{Appends, CountsFaults}
 use Rattle.narc_pcap.specs.declared.record.End.TheVariants.{Clean, Torn, Bad}

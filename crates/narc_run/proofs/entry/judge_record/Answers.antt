@@ -1,12 +1,13 @@
-use Rattle.std.proofs.Common.{Some, ap, rules}
-use Rattle.std.proofs.lemmas.Bool.{le-ltb}
+use Rattle.std.proofs.Common.{Some, ap, subst}
+use Rattle.narc_packet.specs.Answer.{IsAnswer}
 use Rattle.narc_run.proofs.entry.judge_record.Goals as goal
 
-pub returns-else-record-clause-judged : goal.returns-else-record-clause-judged
-returns-else-record-clause-judged g c =
+pub returns-clause-judged : goal.returns-clause-judged
+returns-clause-judged g c =
     let judged = c.judge_frame.ensures.only in
+    let whole = c.in_ok-frame.ensures.whole in
     record {
       answer = Some judged.answer;
-      right = (le-ltb _ _ c.if-record.false, judged.only.right);
+      right = (whole.0, subst (λ octets. IsAnswer octets judged.answer) whole.1 judged.only.right);
       same = ap Some judged.same;
     }

@@ -1,4 +1,4 @@
-use Rattle.std.proofs.Common.{sym, ◌∙◌, subst}
+use Rattle.std.proofs.Common.{sym, subst}
 use Rattle.narc_stack.specs.AnswerView.{answer_view}
 use Rattle.narc_run.specs.Verdict.{answer_verdict}
 use Rattle.narc_run.specs.FrameRun.{IsAnswered, IsCut}

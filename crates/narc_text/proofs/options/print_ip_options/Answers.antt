@@ -14,7 +14,7 @@ loop-option-init g c =
     record {
       so_far = record { done = ip_option_word first; split = list_word-first ip_option_word first left all cut };
       printed = c.in_ok-print_ip_option.ensures.printed;
-      later = omega (arith, c.in_ok-print_ip_option.ensures.later);
+      later = omega (arith, c.in_ok-print_ip_option.ensures.faults.later);
     }
 
 pub loop-option-preserved : goal.loop-option-preserved
@@ -33,7 +33,7 @@ loop-option-preserved g c =
       };
       printed = Passes-next ip_option_word option left all before now cut so_far.so_far c.loop-option.page (g.K.Sink.held c.args.sink.now) (g.K.Sink.held c.loop-option.sink) (g.K.Sink.held c.print_ip_option-in-loop-option.new.sink)
           so_far.printed c.print_word-in-loop-option.new.page c.print_ip_option-in-loop-option.new.page (g.K.Sink.held c.print_word-in-loop-option.new.sink) c.in_ok-print_word.ensures.printed c.in_ok-print_ip_option-2.ensures.printed;
-      later = omega (arith, so_far.later, c.in_ok-print_word.ensures.later, c.in_ok-print_ip_option-2.ensures.later);
+      later = omega (arith, so_far.later, c.in_ok-print_word.ensures.faults.later, c.in_ok-print_ip_option-2.ensures.faults.later);
     }
 
 pub returns-in_err-print_word-clause-printed : goal.returns-in_err-print_word-clause-printed

@@ -32,7 +32,7 @@ loop-rest-preserved g c =
       printed = subst (λ l. Passes (start ++ l) c.put_digits.new.self before now) (sym (encode_lower-append so_far.done.front piece))
           (Passes-then (encode_lower so_far.done.front) (encode_lower piece) start c.loop-rest.page c.put_digits.new.self before (g.K.Sink.held c.loop-rest.sink) now so_far.printed
           (Passes-room (encode_lower piece) c.loop-rest.page c.make_room.new.self c.put_digits.new.self (g.K.Sink.held c.loop-rest.sink) now c.in_ok-make_room.ensures.printed c.put_digits.ensures));
-      later = omega (arith, so_far.later, c.in_ok-make_room.ensures.later);
+      later = omega (arith, so_far.later, c.in_ok-make_room.ensures.faults.later);
     }
 
 pub returns-in_err-make_room-clause-printed : goal.returns-in_err-make_room-clause-printed

@@ -1,0 +1,48 @@
+//! The same call with a count of steps of its own.
+ghost use Rattle.std.specs.Prelude.{◌≡◌, ◌≤◌, ℕ};
+ghost use Rattle.narc_run.specs.Run.{AreCounted, IsPassing, IsRightRun, IsRightWriting, IsUnreadRun, IsUsage, IsWant, WhereTold, WhereUnread};
+
+use crate::command::run;
+use crate::outcome::Outcome;
+use narc_bits::Steps;
+use narc_world::{Sink, Source, Words};
+use std::alloc::Global;
+use std::sync::ledger::{Blank, Ledger};
+
+/// Does the job of the words, and counts its steps from 0: what `run` promises, of a whole book of steps.
+pub fn run_counted<S: Source, K: Sink, L: Ledger>(
+    alloc: Global,
+    words: &Words,
+    source: &mut S,
+    sink: &mut K,
+    blank: Blank,
+) -> Outcome
+    requires name { blank.name ≡ L.name }
+    requires parts { blank.parts ≡ L.parts }
+    requires one { blank.parts ≡ 1 }
+    ensures status { result.status ≤ 7 }
+    ensures usage { (steps : ℕ) × IsUsage words.now result.status result.at 0 steps (source.new ≡ source.old) }
+    ensures limit { IsPassing words.now result.status }
+    ensures memory { IsWant words.now result.status result.at (source.new ≡ source.old) (sink.new ≡ sink.old) }
+    ensures faults { AreCounted result.status result.at (S.faults source.old) (S.faults source.new) (K.faults sink.old) (K.faults sink.new) }
+    ensures unread { (steps : ℕ) × WhereUnread words.now (λ u. IsUnreadRun u result.status result.at (K.held sink.old) (K.held sink.new) (K.faults sink.old) (K.faults sink.new) 0 steps (source.new ≡ source.old)) }
+    ensures writing { IsRightWriting words.now result.status (K.held sink.old) (K.held sink.new) }
+    ensures octets { (steps : ℕ) × WhereTold (S.left source.old) (S.left source.new) (λ input rest. IsRightRun (record {
+      words = words.now;
+      input = input;
+      rest = rest;
+      held_before = K.held sink.old;
+      held_after = K.held sink.new;
+      source_before = S.faults source.old;
+      source_after = S.faults source.new;
+      sink_before = K.faults sink.old;
+      sink_after = K.faults sink.new;
+      steps_before = 0;
+      steps_after = steps;
+      status = result.status;
+      at = result.at;
+    })) }
+{
+    let mut steps = Steps::<L>::new(blank);
+    run(alloc, words, source, sink, &mut steps)
+}

@@ -1,0 +1,4 @@
+pub mod Made
+pub mod Hurt
+pub mod Trying
+pub mod Counting
