@@ -50,11 +50,12 @@ fn is_as_listed<R: Files + AllocGlobal>(rt: &R, case: &Case<'_>) -> Result<bool>
     let words = words_of(rt.alloc(), case.words)?;
     let mut source = StdSource::new(fs::open(rt, case.input)?);
     let mut sink = MemorySink::new(rt.alloc(), CAPACITY, &[])?;
-    let outcome = run_counted::<_, _, Brand>(
+    let outcome = run_counted::<_, _, Brand, Brand>(
         rt.alloc(),
         &words,
         &mut source,
         &mut sink,
+        Blank::new(1),
         Blank::new(1),
     );
     let output = fs::read(rt, case.output)?;

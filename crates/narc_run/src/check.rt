@@ -12,7 +12,7 @@ ghost use Rattle.narc_run.specs.Run.{AreCounted};
 use crate::counts::{Counts, NUMBERS};
 use crate::entry::judge_record;
 use crate::outcome::Outcome;
-use narc_bits::Steps;
+use crate::steps::RunSteps;
 use narc_format::{Field, field};
 use narc_pcap::{End, LONGEST_RECORD, Next, Reader, Started};
 use narc_text::{PAGE_SIZE, Page, put_decimal};
@@ -101,11 +101,11 @@ fn end_check<K: Sink>(counts: &Counts, end: End, sink: &mut K) -> Result<Outcome
 }
 
 /// Reads a capture from the source, and counts its records; what it counted is written when it ended.
-fn check<S: Source, K: Sink, L: Ledger>(
+fn check<S: Source, K: Sink, L: Ledger, J: Ledger>(
     input: Vec<u8>,
     source: &mut S,
     sink: &mut K,
-    steps: &mut Steps<L>,
+    steps: &mut RunSteps<L, J>,
 ) -> Result<Outcome, Failed>
     requires { LONGEST_RECORD ≤ length input.items }
     ensures run { CaptureRun Check (S.left source.old) (S.left source.new) (K.held sink.old) (K.held sink.new) steps.old steps.new result }
@@ -134,11 +134,11 @@ fn check<S: Source, K: Sink, L: Ledger>(
 }
 
 /// Reads a capture from the source by way of the buffer, and writes what it counted.
-pub(crate) fn run_check<S: Source, K: Sink, L: Ledger>(
+pub(crate) fn run_check<S: Source, K: Sink, L: Ledger, J: Ledger>(
     input: Vec<u8>,
     source: &mut S,
     sink: &mut K,
-    steps: &mut Steps<L>,
+    steps: &mut RunSteps<L, J>,
 ) -> Outcome
     requires { LONGEST_RECORD ≤ length input.items }
     ensures run { EndsCapture Check (S.left source.old) (S.left source.new) (K.held sink.old) (K.held sink.new) steps.old steps.new result }

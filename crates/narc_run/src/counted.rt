@@ -1,25 +1,29 @@
-//! The same call with a count of steps of its own.
+//! The same call with counts of steps of its own.
 ghost use Rattle.std.specs.Prelude.{◌≡◌, ◌≤◌, ℕ};
 ghost use Rattle.narc_run.specs.Run.{AreCounted, IsPassing, IsRightRun, IsRightWriting, IsUnreadRun, IsUsage, IsWant, WhereTold, WhereUnread};
 
 use crate::command::run;
 use crate::outcome::Outcome;
-use narc_bits::Steps;
+use crate::steps::RunSteps;
 use narc_world::{Sink, Source, Words};
 use std::alloc::Global;
 use std::sync::ledger::{Blank, Ledger};
 
-/// Does the job of the words, and counts its steps from 0: what `run` promises, of a whole book of steps.
-pub fn run_counted<S: Source, K: Sink, L: Ledger>(
+/// Does the job of the words with two new counts of steps, one of decoding and one of judging: what `run` promises, from 0.
+pub fn run_counted<S: Source, K: Sink, L: Ledger, J: Ledger>(
     alloc: Global,
     words: &Words,
     source: &mut S,
     sink: &mut K,
-    blank: Blank,
+    decoding: Blank,
+    judging: Blank,
 ) -> Outcome
-    requires name { blank.name ≡ L.name }
-    requires parts { blank.parts ≡ L.parts }
-    requires one { blank.parts ≡ 1 }
+    requires decoding_name { decoding.name ≡ L.name }
+    requires decoding_parts { decoding.parts ≡ L.parts }
+    requires decoding_one { decoding.parts ≡ 1 }
+    requires judging_name { judging.name ≡ J.name }
+    requires judging_parts { judging.parts ≡ J.parts }
+    requires judging_one { judging.parts ≡ 1 }
     ensures status { result.status ≤ 7 }
     ensures usage { (steps : ℕ) × IsUsage words.now result.status result.at 0 steps (source.new ≡ source.old) }
     ensures limit { IsPassing words.now result.status }
@@ -43,6 +47,6 @@ pub fn run_counted<S: Source, K: Sink, L: Ledger>(
       at = result.at;
     })) }
 {
-    let mut steps = Steps::<L>::new(blank);
+    let mut steps = RunSteps::<L, J>::new(decoding, judging);
     run(alloc, words, source, sink, &mut steps)
 }

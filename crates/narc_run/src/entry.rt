@@ -10,7 +10,8 @@ ghost use Rattle.narc_run.specs.Findings.{IsEntryAnswer, entry_cost};
 ghost use Rattle.narc_run.specs.Output.{show_answer};
 
 use crate::frame::print_answer;
-use narc_bits::{MAX_FRAME, Steps};
+use crate::steps::RunSteps;
+use narc_bits::MAX_FRAME;
 use narc_packet::Packet;
 use narc_pcap::Record;
 use narc_stack::{Refusal, decode_frame, judge_frame};
@@ -37,31 +38,31 @@ fn whole_frame<'a>(record: &Record, octets: &'a [u8]) -> Option<&'a [u8]>
 }
 
 /// The answer for a record with this frame.
-pub(crate) fn answer_record<'a, L: Ledger>(
+pub(crate) fn answer_record<'a, L: Ledger, J: Ledger>(
     record: &Record,
     octets: &'a [u8],
-    steps: &mut Steps<L>,
+    steps: &mut RunSteps<L, J>,
 ) -> Answered<'a>
     requires { length octets.now ≤ MAX_FRAME }
     ensures answer { IsEntryAnswer (record { head = record.now; octets = octets.now }) (entry_answer result) }
     ensures cost { steps.new ≤ steps.old + entry_cost (record { head = record.now; octets = octets.now }) }
 {
     let frame = whole_frame(record, octets)?;
-    Some(decode_frame(frame, steps))
+    Some(decode_frame(frame, &mut steps.decoding))
 }
 
 /// The judgement of a record with this frame.
-pub(crate) fn judge_record<L: Ledger>(
+pub(crate) fn judge_record<L: Ledger, J: Ledger>(
     record: &Record,
     octets: &[u8],
-    steps: &mut Steps<L>,
+    steps: &mut RunSteps<L, J>,
 ) -> Judged
     requires { length octets.now ≤ MAX_FRAME }
     ensures judged { IsEntryJudgement (record { head = record.now; octets = octets.now }) result }
     ensures cost { steps.new ≤ steps.old + entry_cost (record { head = record.now; octets = octets.now }) }
 {
     let frame = whole_frame(record, octets)?;
-    Some(judge_frame(frame, steps))
+    Some(judge_frame(frame, &mut steps.judging))
 }
 
 /// The line of a snapped record, behind its front.

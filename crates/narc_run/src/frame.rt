@@ -11,7 +11,8 @@ ghost use Rattle.narc_run.specs.Run.{AreCounted};
 
 use crate::input::{Filled, fill};
 use crate::outcome::Outcome;
-use narc_bits::{MAX_FRAME, Steps};
+use crate::steps::RunSteps;
+use narc_bits::MAX_FRAME;
 use narc_packet::Packet;
 use narc_stack::{Refusal, decode_frame};
 use narc_text::{Page, print_packet, put_decimal};
@@ -74,10 +75,10 @@ fn put_answer<K: Sink>(answer: &Result<Packet<'_>, Refusal>, sink: &mut K) -> Re
 }
 
 /// Answers a whole frame: its line, and the outcome.
-fn answer_frame<K: Sink, L: Ledger>(
+fn answer_frame<K: Sink, L: Ledger, J: Ledger>(
     octets: &[u8],
     sink: &mut K,
-    steps: &mut Steps<L>,
+    steps: &mut RunSteps<L, J>,
 ) -> Result<Outcome, Failed>
     requires { length octets.now ≤ MAX_FRAME }
     ensures told { MatchResult result (λ outcome. IsAnswered octets.now outcome.status outcome.at (K.held sink.old) (K.held sink.new)) (λ _. IsCut octets.now (K.held sink.old) (K.held sink.new)) }
@@ -85,7 +86,7 @@ fn answer_frame<K: Sink, L: Ledger>(
     ensures cost { steps.new ≤ steps.old + (16 * length octets.now + 1) }
     ensures faults { CountsFaults (OnErr result) (K.faults sink.old) (K.faults sink.new) }
 {
-    let answer = decode_frame(octets, steps);
+    let answer = decode_frame(octets, &mut steps.decoding);
     put_answer(&answer, sink)?;
     match answer {
         Ok(_) => Ok(Outcome::done()),
@@ -94,11 +95,11 @@ fn answer_frame<K: Sink, L: Ledger>(
 }
 
 /// Reads the whole input into the buffer, and answers it.
-pub(crate) fn run_frame<S: Source, K: Sink, L: Ledger>(
+pub(crate) fn run_frame<S: Source, K: Sink, L: Ledger, J: Ledger>(
     buffer: &mut [u8],
     source: &mut S,
     sink: &mut K,
-    steps: &mut Steps<L>,
+    steps: &mut RunSteps<L, J>,
 ) -> Outcome
     requires { length buffer.old ≡ FRAME_BUFFER }
     ensures run { FrameRun (S.left source.old) (S.left source.new) (K.held sink.old) (K.held sink.new) steps.old steps.new result.status result.at }

@@ -11,8 +11,8 @@ ghost use Rattle.narc_run.specs.Run.{AreCounted};
 
 use crate::entry::{answer_record, print_record};
 use crate::outcome::Outcome;
+use crate::steps::RunSteps;
 use crate::tally::Tally;
-use narc_bits::Steps;
 use narc_pcap::{End, Header, LONGEST_RECORD, Next, Reader, Started, Unit};
 use narc_text::{LINE, PAGE_SIZE, Page, put_decimal};
 use narc_world::{Failed, Sink, Source};
@@ -112,11 +112,11 @@ fn tell_waiting<K: Sink>(reader: &Reader, page: &mut Page, sink: &mut K) -> Resu
 }
 
 /// Reads a capture from the source, and prints it as it comes.
-fn show<S: Source, K: Sink, L: Ledger>(
+fn show<S: Source, K: Sink, L: Ledger, J: Ledger>(
     input: Vec<u8>,
     source: &mut S,
     sink: &mut K,
-    steps: &mut Steps<L>,
+    steps: &mut RunSteps<L, J>,
 ) -> Result<Outcome, Failed>
     requires { LONGEST_RECORD ≤ length input.items }
     ensures run { CaptureRun Show (S.left source.old) (S.left source.new) (K.held sink.old) (K.held sink.new) steps.old steps.new result }
@@ -154,11 +154,11 @@ fn show<S: Source, K: Sink, L: Ledger>(
 }
 
 /// Reads a capture from the source into the buffer, and prints it as it comes.
-pub(crate) fn run_show<S: Source, K: Sink, L: Ledger>(
+pub(crate) fn run_show<S: Source, K: Sink, L: Ledger, J: Ledger>(
     input: Vec<u8>,
     source: &mut S,
     sink: &mut K,
-    steps: &mut Steps<L>,
+    steps: &mut RunSteps<L, J>,
 ) -> Outcome
     requires { LONGEST_RECORD ≤ length input.items }
     ensures run { EndsCapture Show (S.left source.old) (S.left source.new) (K.held sink.old) (K.held sink.new) steps.old steps.new result }

@@ -6,7 +6,8 @@ ghost use Rattle.narc_run.specs.Output.{trial_line};
 ghost use Rattle.narc_run.specs.UnreadRun.{UnreadRun};
 
 use crate::outcome::Outcome;
-use narc_bits::{MAX_FRAME, Steps};
+use crate::steps::RunSteps;
+use narc_bits::MAX_FRAME;
 use narc_text::{PAGE_SIZE, Page, put_decimal};
 use narc_trial::{MADE_OCTETS, TrialCounts, try_packets};
 use narc_world::{Failed, Sink};
@@ -59,20 +60,20 @@ fn tell_trial<K: Sink>(
 
 /// Tries so many packets from a number on, with a buffer for their frames and one for what they are made of, and writes
 /// what was found.
-pub(crate) fn run_trial<K: Sink, L: Ledger>(
+pub(crate) fn run_trial<K: Sink, L: Ledger, J: Ledger>(
     seed: u32,
     count: u32,
     frame: &mut [u8],
     store: &mut [u8],
     sink: &mut K,
-    steps: &mut Steps<L>,
+    steps: &mut RunSteps<L, J>,
 ) -> Outcome
     requires frame { MAX_FRAME ≤ length frame.old }
     requires store { MADE_OCTETS ≤ length store.old }
     ensures run { UnreadRun (Trial seed count) (K.held sink.old) (K.held sink.new) steps.old steps.new result.status result.at }
     ensures faults { CountsFaults (λ rose. result.status ≡ 6 → rose) (K.faults sink.old) (K.faults sink.new) }
 {
-    let counts = try_packets(seed, count, frame, store, steps);
+    let counts = try_packets(seed, count, frame, store, &mut steps.decoding);
     match tell_trial(seed, count, &counts, sink) {
         Ok(()) => Outcome::done(),
         Err(_) => Outcome::sink_fault(),

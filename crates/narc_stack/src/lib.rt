@@ -29,6 +29,6 @@ pub use frame::{
 };
 pub use ipv4::{ContentOf, Ipv4Format, OctetsThere, ZerosBehind};
 pub use ipv4_part::Ipv4Part;
-pub use judge::judge_frame;
+pub use judge::{Judging, judge_frame};
 pub use laws::{canonical_octets_are_a_frame, packets_with_a_frame_are_well_formed};
 pub use refusal::Refusal;

@@ -1,4 +1,7 @@
 use Rattle.narc_run.proofs.tests.end_of.Given as goal
 
-abbrev pub ghosts-run_counted : goal.ghosts-run_counted
-ghosts-run_counted a = record { name = a.blank.name; parts = a.blank.parts }
+abbrev pub ghosts-run_counted-L-Ledger : goal.ghosts-run_counted-L-Ledger
+ghosts-run_counted-L-Ledger a = record { name = a.decoding.name; parts = a.decoding.parts }
+
+abbrev pub ghosts-run_counted-J-Ledger : goal.ghosts-run_counted-J-Ledger
+ghosts-run_counted-J-Ledger a = record { name = a.judging.name; parts = a.judging.parts }
