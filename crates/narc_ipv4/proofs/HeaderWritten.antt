@@ -1,5 +1,5 @@
 -- Which headers can be written, and what is written of them.
-use Rattle.std.proofs.Common.{◌≡◌, ℕ, zero, suc, lit<, ◌+◌, ◌*◌, ◌-◌, ◌/◌, ◌%◌, ◌^◌, ◌<◌, ◌≤◌, ◌↔◌, List, [], ◌∷◌, ◌++◌, length, replicate, refl, sym, ap, ◌∙◌, subst, arith, length-append}
+use Rattle.std.proofs.Common.{◌≡◌, ℕ, zero, suc, lit<, ◌+◌, ◌*◌, ◌-◌, ◌/◌, ◌<◌, ◌≤◌, List, [], ◌++◌, length, replicate, refl, sym, ap, ◌∙◌, subst, arith, length-append}
 use Rattle.std.specs.Prelude.{min}
 use Rattle.std.proofs.Math.ListN.{length-replicate}
 use Rattle.narc_bits.specs.Octets.{IsOctets, big_endian}
@@ -26,7 +26,7 @@ use Rattle.narc_options.specs.Option.{option_region}
 use Rattle.narc_options.proofs.AreaRead.{region_admits}
 use Rattle.narc_ipv4.specs.declared.as_header.IpHeader.{IpHeader}
 use Rattle.narc_ipv4.specs.Header.{area_length_of, RawBefore, raw_header, ip_before, ip_fields, ip_head}
-use Rattle.narc_ipv4.specs.HeaderOctets.{packet_of, FitsHeader, header_with, canonical_header, AdmitsWhatFits, IsWrittenWithItsChecksum}
+use Rattle.narc_ipv4.specs.HeaderOctets.{packet_of, FitsHeader, header_with, AdmitsWhatFits, IsWrittenWithItsChecksum}
 use Rattle.narc_ipv4.specs.Laws.{ip_head_laws}
 use Rattle.narc_ipv4.proofs.HeaderSound.{head_sound}
 use Rattle.narc_ipv4.proofs.HeaderChosen.{AreFields, summed_admits}

@@ -1,10 +1,10 @@
 -- The octets of an option.
-use Rattle.std.proofs.Common.{◌≡◌, ℕ, ◌+◌, ◌%◌, ◌↔◌, ◌<◌, Bool, List, length, refl, sym, ap, ◌∙◌, subst, arith}
+use Rattle.std.proofs.Common.{◌≡◌, refl, sym, ap, ◌∙◌, subst}
 use Rattle.std.proofs.Math.Nat.{mod-eq_of_lt}
 use Rattle.narc_bits.specs.Bits.{bits}
 use Rattle.narc_compose.specs.declared.either.Either.TheVariants.{Left, Right}
 use Rattle.narc_compose.specs.Strip.{stripped}
-use Rattle.narc_packet.specs.Options.{IpOptionView, IpNop, IpOther, ip_option, IsIpOption}
+use Rattle.narc_packet.specs.Options.{IpOther, ip_option, IsIpOption}
 use Rattle.narc_packet.specs.PacketView.{ip_option_view}
 use Rattle.narc_packet.specs.declared.options.IpOption.{IpOption}
 use Rattle.narc_packet.specs.declared.options.IpOption.TheVariants as ip

@@ -1,8 +1,6 @@
 -- Octets and rows of a layout of fixed length, without a context.
 use Rattle.std.proofs.Common.{◌≡◌, ℕ, ◌+◌, List, ◌++◌, length, refl, sym, ap, ◌∙◌, subst, arith}
-use Rattle.narc_bits.specs.Octets.{IsOctets}
 use Rattle.narc_bits.specs.Bits.{bits}
-use Rattle.narc_format.specs.declared.fault.Fault.{Fault}
 use Rattle.narc_format.specs.Meaning.{Meaning}
 use Rattle.narc_format.specs.Rows.{Row}
 use Rattle.narc_layout.specs.FirstFault.{IsFirstFault}

@@ -1,15 +1,14 @@
 -- Octets and rows of a gap, a region, a name and a sum. (General: beside the rules, or in a crate above them.)
-use Rattle.std.proofs.Common.{◌≡◌, ℕ, suc, ◌+◌, ◌*◌, ◌-◌, ◌/◌, ◌<◌, ◌≤◌, ◌↔◌, ◌⊎◌, Bool, true, false, not, List, [], ◌∷◌, ◌++◌, length, take, drop, map, nat_eq, nat_lt, ◌%◌, ◌&&◌, if◌then◌else◌, Option, Some, None, IsTrue, refl, sym, ap, ◌∙◌, subst, append_assoc, arith, inl, inr, length-append, length-take, take-append-drop}
-use Rattle.std.proofs.lemmas.List.{drop_at, take_at}
-use Rattle.std.proofs.lemmas.Bool.{lt-ltb, le-ltb, ltb-true, ltb-false, eqb-true}
-use Rattle.narc_compose.specs.Conditions.{and_left, and_right}
+use Rattle.std.proofs.Common.{◌≡◌, ℕ, ◌+◌, ◌*◌, ◌-◌, ◌/◌, ◌≤◌, ◌↔◌, ◌⊎◌, Bool, true, false, not, List, [], ◌∷◌, ◌++◌, length, take, drop, ◌%◌, if◌then◌else◌, Some, None, IsTrue, refl, sym, ap, ◌∙◌, subst, arith, inl, inr, length-append, length-take, take-append-drop}
+use Rattle.std.proofs.lemmas.List.{take_at}
+use Rattle.std.proofs.lemmas.Bool.{lt-ltb, le-ltb, ltb-true, ltb-false}
 use Rattle.narc_bits.specs.Octets.{IsOctets, is_shorter}
 use Rattle.narc_bits.specs.Bits.{bits, octets_of_bits}
 use Rattle.narc_bits.proofs.Numbers.{length-bits, bits-append}
-use Rattle.narc_bits.proofs.Octets.{IsOctets-append, IsOctets-front, IsOctets-back, IsOctets-drop, IsOctets-take}
+use Rattle.narc_bits.proofs.Octets.{IsOctets-front, IsOctets-take}
 use Rattle.narc_bits.proofs.Scans.{bits-take}
-use Rattle.narc_bits.proofs.Spelled.{bits_same, bits-octets_of_bits, IsOctets-octets_of_bits, length-octets_of_bits}
-use Rattle.narc_format.specs.Faults.{fault_at, unnamed_fault}
+use Rattle.narc_bits.proofs.Spelled.{bits_same, bits-octets_of_bits, IsOctets-octets_of_bits}
+use Rattle.narc_format.specs.Faults.{fault_at}
 use Rattle.narc_format.specs.declared.fault.Fault.{Fault}
 use Rattle.narc_format.specs.Meaning.{Meaning}
 use Rattle.narc_bits.specs.InternetSum.{total, is_good_sum, IsGoodTotal}
@@ -18,9 +17,9 @@ use Rattle.narc_list.specs.Region.{region}
 use Rattle.narc_sum.specs.Checked.{checked}
 use Rattle.narc_format.specs.Rows.{Row, RefusalView, row, first_failing}
 use Rattle.narc_layout.specs.FirstFault.{IsFirstFault}
-use Rattle.narc_layout.proofs.Rows.{Fails, told, judged, first_failing-front, first_failing-back, first_failing-none}
+use Rattle.narc_layout.proofs.Rows.{told, judged, first_failing-front, first_failing-back, first_failing-none}
 use Rattle.narc_layout.proofs.Layouts.{front_octets}
-use Rattle.narc_layout.proofs.ReadLayout.{Spelled, Front, Parts, IsRead, IsTailRead}
+use Rattle.narc_layout.proofs.ReadLayout.{Spelled, Front, IsRead, IsTailRead}
 
 -- the octets of a sum
 octets_again : (o : List ℕ) → IsOctets o → octets_of_bits (length (bits o) / 8) (bits o) ≡ o

@@ -1,8 +1,8 @@
 -- Octets and rows of a checksum that may be absent, and of a tail with a checksum.
-use Rattle.std.proofs.Common.{◌≡◌, ℕ, ◌+◌, ◌*◌, ◌-◌, ◌/◌, ◌%◌, ◌≤◌, ◌↔◌, ◌⊎◌, Bool, true, false, not, ◌&&◌, ◌||◌, List, [], ◌∷◌, ◌++◌, length, take, drop, nat_eq, nat_lt, Some, None, IsTrue, refl, sym, ap, ◌∙◌, subst, arith, inl, inr, length-take, length-drop}
+use Rattle.std.proofs.Common.{◌≡◌, ℕ, ◌+◌, ◌*◌, ◌-◌, ◌/◌, ◌%◌, ◌≤◌, ◌↔◌, ◌⊎◌, Bool, true, false, not, ◌&&◌, ◌||◌, List, [], ◌∷◌, ◌++◌, length, take, drop, nat_eq, nat_lt, IsTrue, refl, sym, ap, ◌∙◌, subst, arith, inl, inr, length-drop}
 use Rattle.std.proofs.lemmas.Bool.{and_parts, and_from, ltb-true, lt-ltb, eqb-true}
 use Rattle.narc_bits.specs.Octets.{IsOctets, number_of, number_at}
-use Rattle.narc_bits.specs.Bits.{bits, bits_of_number, number_of_bits, octets_of_bits}
+use Rattle.narc_bits.specs.Bits.{bits, number_of_bits, octets_of_bits}
 use Rattle.narc_bits.specs.InternetSum.{total, is_good_total, IsGoodTotal, is_good_sum}
 use Rattle.narc_bits.proofs.Numbers.{length-bits, number_of_bits-bits_of_number_lt}
 use Rattle.narc_bits.proofs.Octets.{IsOctets-take, IsOctets-drop}
@@ -12,13 +12,13 @@ use Rattle.narc_bits.proofs.Sums.{total-append}
 use Rattle.narc_format.specs.Faults.{fault_at}
 use Rattle.narc_format.specs.declared.fault.Fault.{Fault}
 use Rattle.narc_format.specs.Meaning.{Meaning}
-use Rattle.narc_format.specs.Rows.{Row, RefusalView, row, first_failing}
+use Rattle.narc_format.specs.Rows.{Row, row, first_failing}
 use Rattle.narc_sum.specs.Checked.{checked_or_none, checked_tail}
 use Rattle.narc_layout.specs.FirstFault.{IsFirstFault}
 use Rattle.narc_layout.proofs.NetworkOrder.{number_of_lt, bits-number_of}
-use Rattle.narc_layout.proofs.Rows.{Fails, told, judged, first_failing-front, first_failing-back, first_failing-none}
+use Rattle.narc_layout.proofs.Rows.{told, judged, first_failing-front, first_failing-back, first_failing-none}
 use Rattle.narc_layout.proofs.ReadLayout.{Spelled, IsRead, IsTailRead}
-use Rattle.narc_layout.proofs.RuleReads.{one_more, none_more, one_fails, fails_one, sealed_read, is_not, is_right, not_bad}
+use Rattle.narc_layout.proofs.RuleReads.{one_more, none_more, one_fails, fails_one, sealed_read, is_right, not_bad}
 use Rattle.narc_layout.proofs.TestRead.{octets_again}
 
 -- the sum behind a pseudo header of an even number of octets

@@ -1,5 +1,5 @@
 -- The checksum that is written into octets, and the octets with it.
-use Rattle.std.proofs.Common.{◌≡◌, ℕ, zero, suc, ◌+◌, ◌*◌, ◌-◌, ◌%◌, ◌≤◌, ◌<◌, Bool, true, false, List, ◌++◌, length, nat_eq, if◌then◌else◌, refl, sym, ap, ◌∙◌, subst, arith}
+use Rattle.std.proofs.Common.{◌≡◌, ℕ, zero, suc, ◌+◌, ◌*◌, ◌-◌, ◌%◌, ◌≤◌, Bool, true, false, List, ◌++◌, length, nat_eq, if◌then◌else◌, refl, sym, ap, ◌∙◌, arith}
 use Rattle.std.proofs.lemmas.Bool.{eqb-true}
 use Rattle.narc_bits.specs.Octets.{IsOctets, big_endian}
 use Rattle.narc_bits.specs.Bits.{bits, bits_of_number, overlay}
@@ -8,7 +8,7 @@ use Rattle.narc_bits.proofs.Spelled.{bits-overlay, bits-big_endian, length-big_e
 use Rattle.narc_bits.proofs.Sums.{total-append}
 use Rattle.narc_format.specs.Meaning.{Meaning}
 use Rattle.narc_sum.specs.Checked.{with_word, sealing, never_zero}
-use Rattle.narc_layout.proofs.SumReads.{sum_of_bits, sum_of_octets, sum_again}
+use Rattle.narc_layout.proofs.SumReads.{sum_of_bits, sum_again}
 
 -- 0 is written as all ones
 pub never_zero_is : (n : ℕ) → never_zero n ≡ (if nat_eq n 0 then 65535 else n)

@@ -1,5 +1,5 @@
 -- Octets and rows of a layout that passes a test in a context. (General: for a crate below.)
-use Rattle.std.proofs.Common.{◌≡◌, ℕ, ◌+◌, ◌*◌, ◌/◌, ◌↔◌, Bool, true, false, not, List, [], ◌∷◌, ◌++◌, length, take, IsTrue, refl, sym, ap, ◌∙◌, subst, arith, inl, inr, append-nil}
+use Rattle.std.proofs.Common.{◌≡◌, ℕ, ◌+◌, ◌/◌, Bool, not, List, [], ◌∷◌, ◌++◌, length, take, IsTrue, sym, ap, ◌∙◌, arith, inl, inr, append-nil}
 use Rattle.narc_bits.specs.Octets.{IsOctets}
 use Rattle.narc_bits.specs.Bits.{bits, octets_of_bits}
 use Rattle.narc_bits.proofs.Numbers.{length-bits}

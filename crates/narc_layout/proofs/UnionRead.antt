@@ -1,5 +1,5 @@
 -- Octets and rows of one of two tails.
-use Rattle.std.proofs.Common.{◌≡◌, ℕ, ◌≤◌, ◌↔◌, Bool, true, false, List, if◌then◌else◌, Some, None, refl}
+use Rattle.std.proofs.Common.{◌≡◌, ℕ, ◌≤◌, ◌↔◌, Bool, true, false, List, if◌then◌else◌, Some, None}
 use Rattle.narc_bits.specs.Octets.{IsOctets}
 use Rattle.narc_bits.specs.Bits.{bits}
 use Rattle.narc_format.specs.declared.fault.Fault.{Fault}

@@ -1,12 +1,11 @@
 -- Octets and rows of a gap, a name, a measured tail and a view. (General: beside the rules, or in a crate above them.)
-use Rattle.std.proofs.Common.{◌≡◌, ℕ, ◌+◌, ◌*◌, ◌/◌, ◌<◌, ◌≤◌, ◌↔◌, ◌⊎◌, Bool, true, false, List, [], ◌∷◌, ◌++◌, length, take, drop, map, nat_eq, if◌then◌else◌, Option, Some, None, refl, sym, ap, ◌∙◌, subst, append_assoc, arith, inl, inr, length-append, length-take, take-append-drop}
+use Rattle.std.proofs.Common.{◌≡◌, ℕ, ◌+◌, ◌*◌, ◌/◌, ◌<◌, ◌≤◌, ◌↔◌, Bool, true, false, List, [], ◌∷◌, ◌++◌, length, take, drop, map, nat_eq, if◌then◌else◌, Option, Some, None, refl, sym, ap, ◌∙◌, subst, append_assoc, arith, inl, inr, length-append, length-take, take-append-drop}
 use Rattle.std.proofs.lemmas.Bool.{lt-ltb, le-ltb, ltb-true, ltb-false}
-use Rattle.std.specs.Borrow.{Bor}
 use Rattle.narc_bits.specs.Octets.{IsOctets, is_shorter}
 use Rattle.narc_bits.specs.Bits.{bits, octets_of_bits}
 use Rattle.narc_bits.proofs.Numbers.{length-bits, bits-append}
-use Rattle.narc_bits.proofs.Octets.{IsOctets-append, IsOctets-front, IsOctets-back}
-use Rattle.narc_bits.proofs.Spelled.{bits-octets_of_bits, IsOctets-octets_of_bits, length-octets_of_bits, bits_same}
+use Rattle.narc_bits.proofs.Octets.{IsOctets-append, IsOctets-front}
+use Rattle.narc_bits.proofs.Spelled.{bits-octets_of_bits, IsOctets-octets_of_bits, length-octets_of_bits}
 use Rattle.narc_format.specs.Faults.{fault_at, named_by}
 use Rattle.narc_format.specs.declared.fault.Fault.{Fault}
 use Rattle.narc_format.specs.Meaning.{Meaning}
@@ -19,7 +18,7 @@ use Rattle.narc_compose.specs.Gap.{gapped}
 use Rattle.narc_compose.specs.Measured.{measured}
 use Rattle.narc_format.specs.Rows.{Row, RefusalView, row, first_failing}
 use Rattle.narc_layout.specs.FirstFault.{IsFirstFault}
-use Rattle.narc_layout.proofs.Rows.{Fails, told, judged, first_failing-front, first_failing-back, first_failing-none}
+use Rattle.narc_layout.proofs.Rows.{told, judged, first_failing-front, first_failing-back, first_failing-none}
 use Rattle.narc_layout.proofs.Layouts.{front_octets}
 use Rattle.narc_layout.proofs.ReadLayout.{Spelled, Front, Parts, IsRead, IsTailRead}
 use Rattle.narc_layout.proofs.RuleReads.{one_more, none_more, one_fails, fails_one}

@@ -3,11 +3,10 @@ use Rattle.std.specs.Prelude.{◌≡◌, ℕ, ◌+◌, ◌≤◌, ◌<◌, ◌^�
 use Rattle.std.proofs.Common.{lit<, lit≤, inl, inr, arith}
 use Rattle.narc_bits.specs.Octets.{IsOctets}
 use Rattle.narc_bits.specs.InternetSum.{total, folded, IsGoodSum}
-use Rattle.narc_packet.specs.Options.{IpOptionView, IpNop, IpOther, TcpOptionView, TcpNop, TcpMss, TcpOther, IsIpArea, IsTcpArea}
+use Rattle.narc_packet.specs.Options.{IpOptionView, IpNop, IpOther, TcpOptionView, TcpNop, TcpMss, TcpOther, IsIpArea}
 use Rattle.narc_packet.specs.PacketView.{PacketView, EthBodyView, ArpBody, Ipv4Body, OtherBody, Ipv4View, IpBodyView, UdpBody, TcpBody, RawBody, UdpView, TcpView}
 use Rattle.narc_packet.specs.Udp.{IsUdp}
-use Rattle.narc_packet.specs.Tcp.{IsTcp}
-use Rattle.narc_packet.specs.Ipv4.{ipv4_header, is_fragment, MayHaveBody, IsIpBody, IsIpv4InRange}
+use Rattle.narc_packet.specs.Ipv4.{ipv4_header, is_fragment, MayHaveBody, IsIpBody}
 use Rattle.narc_packet.specs.Frame.{IsFrame}
 use Rattle.narc_packet.specs.Canonical.{canonical_frame}
 use Rattle.narc_packet.specs.WellFormed.{IsWellFormed}

@@ -19,7 +19,6 @@ use Rattle.narc_list.specs.Bytes.{all_octets}
 use Rattle.narc_sum.specs.Checked.{checked_tail, sealing}
 use Rattle.narc_layout.proofs.SumSpelled.{word_is, checksum_is}
 use Rattle.narc_packet.specs.Tcp.{tcp_octets, tcp_pseudo_header, canonical_tcp}
-use Rattle.narc_transport.proofs.PseudoSums.{pseudo_sum}
 use Rattle.narc_compose.specs.Strip.{stripped}
 use Rattle.narc_list.specs.Region.{region}
 use Rattle.narc_list.specs.Until.{until}

@@ -24,7 +24,6 @@ use Rattle.narc_packet.specs.PacketView.{UdpView, udp_view}
 use Rattle.narc_transport.specs.declared.context.Ends.{Ends}
 use Rattle.narc_transport.specs.Context.{IsEnds, IsThere}
 use Rattle.narc_transport.specs.Written.{FitsUdp}
-use Rattle.narc_transport.proofs.PseudoSums.{pseudo_sum}
 use Rattle.narc_transport.specs.Udp.{udp_pseudo_of, raw_udp, udp_datagram, udp_format}
 use Rattle.narc_transport.proofs.UdpSound.{length_most, surplus_size}
 use Rattle.narc_transport.proofs.UdpChosen.{length_fits}

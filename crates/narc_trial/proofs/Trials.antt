@@ -1,10 +1,10 @@
 -- Many packets of a trial, one after the other.
-use Rattle.std.proofs.Common.{◌≡◌, ℕ, ◌+◌, ◌*◌, ◌%◌, ◌^◌, ◌<◌, ◌≤◌, List, [], ◌∷◌, ◌++◌, map, length, Result, Ok, Err, refl, sym, ap, ◌∙◌, subst, arith, zero-add, add-zero}
-use Rattle.std.specs.Prelude.{◌↔◌, IsOk, IfOk, take, sum_by, count_by, Bool, true, false}
-use Rattle.std.specs.List.{AllByRecursion, range_with_len}
+use Rattle.std.proofs.Common.{◌≡◌, ℕ, ◌+◌, ◌*◌, ◌%◌, ◌^◌, ◌≤◌, List, [], ◌∷◌, ◌++◌, map, length, Result, Ok, Err, sym, ap, ◌∙◌, arith, zero-add, add-zero}
+use Rattle.std.specs.Prelude.{◌↔◌, IsOk, IfOk, take, sum_by}
+use Rattle.std.specs.List.{AllByRecursion}
 use Rattle.std.proofs.lemmas.List.{map_push, take_all}
 use Rattle.std.proofs.lemmas.List.FromFn.{map-range_with_len_more}
-use Rattle.std.proofs.lemmas.List.Sums.{sum_by_push, count_by-le-length}
+use Rattle.std.proofs.lemmas.List.Sums.{sum_by_push}
 use Rattle.narc_bits.specs.declared.limits.TheConstants.{MAX_FRAME}
 use Rattle.narc_packet.specs.Canonical.{canonical_frame}
 use Rattle.narc_packet.specs.PacketView.{PacketView}
@@ -13,7 +13,7 @@ use Rattle.narc_trial.specs.declared.fate.Fate.TheVariants.{Same, Other, Refused
 use Rattle.narc_trial.specs.declared.counts.TrialCounts.{TrialCounts}
 use Rattle.narc_trial.specs.Made.{made}
 use Rattle.narc_trial.specs.Hurt.{hurt, hurt_place, made_size, with_bit_changed}
-use Rattle.narc_trial.specs.Trying.{Tried, IsFate, IsRightlyTried, AreTried, numbers, is_same, is_other, is_refused}
+use Rattle.narc_trial.specs.Trying.{Tried, IsFate, IsRightlyTried, AreTried, numbers}
 use Rattle.narc_trial.specs.Counting.{IsTrial, counts_of, counts_after, hurt_cost}
 
 -- the room that a frame fills is the frame

@@ -1,4 +1,4 @@
-use Rattle.std.proofs.Common.{◌≡◌, ◌+◌, ◌≤◌, length, take, ap, ◌∙◌, arith}
+use Rattle.std.proofs.Common.{◌≡◌, ◌≤◌, length, take, ap, ◌∙◌, arith}
 use Rattle.std.proofs.lemmas.List.{length-take-le, take_at}
 use Rattle.narc_packet.specs.PacketView.{PacketView, view}
 use Rattle.narc_packet.specs.Canonical.{canonical_frame}

@@ -1,4 +1,4 @@
-use Rattle.std.proofs.Common.{◌≡◌, ◌+◌, ◌*◌, ◌≤◌, ℕ, List, length, ap, subst, arith}
+use Rattle.std.proofs.Common.{ℕ, List, length, ap, subst, arith}
 use Rattle.narc_packet.specs.PacketView.{PacketView, view}
 use Rattle.narc_trial.specs.Hurt.{hurt}
 use Rattle.narc_trial.specs.Trying.{IsFate}

@@ -1,4 +1,4 @@
-use Rattle.std.proofs.Common.{◌≡◌, ◌+◌, ◌*◌, ◌≤◌, sym, ap, ◌∙◌, subst, arith}
+use Rattle.std.proofs.Common.{◌+◌, sym, ap, ◌∙◌, subst, arith}
 use Rattle.narc_trial.specs.declared.counts.TrialCounts.{TrialCounts}
 use Rattle.narc_trial.specs.Counting.{counts_after}
 use Rattle.narc_trial.proofs.Trials.{Bounded, Bounded-push, IsTrial-push, hurt_cost-push}
