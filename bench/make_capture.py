@@ -1,7 +1,7 @@
 #!/usr/bin/env python3
 """Makes a classic capture of ARP, IPv4, UDP, TCP and other frames, the same at each run.
 
-usage: make_capture.py FILE [PACKETS]        (a million packets, about 200 MB, without a number)
+usage: make_capture.py FILE [PACKETS]        (a million packets, about 310 MB, without a number)
 
 A pool of distinct packets is made once and repeated with rising times.
 """
