@@ -5,9 +5,11 @@ ghost use Rattle.narc_ipv4.specs.Header.{header_of, raw_header, fragment_word_of
 use narc_compose::Choose;
 use narc_packet::IpOptions;
 
-/// The fields of an IPv4 header.
+/// The fields of an IPv4 header. The addresses stand first, so that both are moved as one word.
 #[derive(Clone, Copy, Debug, Drop, PartialEq, Eq)]
 pub struct IpHeader<'a> {
+    pub src: [u8; 4],
+    pub dst: [u8; 4],
     /// How many octets the header has: 20 to 60, a multiple of 4.
     pub length: u8,
     pub tos: u8,
@@ -22,8 +24,6 @@ pub struct IpHeader<'a> {
     pub offset: u16,
     pub ttl: u8,
     pub protocol: u8,
-    pub src: [u8; 4],
-    pub dst: [u8; 4],
     pub options: IpOptions<'a>,
 }
 
