@@ -1,2 +1,3 @@
 pub mod EthernetHeader
 pub mod ArpPacket
+pub mod Laws

@@ -3,6 +3,7 @@
 
 mod arp;
 mod ethernet;
+mod part;
 #[cfg(test)]
 mod tests;
 
@@ -12,3 +13,4 @@ pub use arp::{
 pub use ethernet::{
     EthHead, eth_head_is_its_octets, eth_head_is_refused_by_row, eth_head_is_sound,
 };
+pub use part::ArpPart;

@@ -10,6 +10,7 @@ use Rattle.narc_scalar.specs.TestedLaws.{tested_laws}
 use Rattle.narc_scalar.specs.Word.{word}
 use Rattle.narc_scalar.specs.WordLaws.{word_laws}
 use Rattle.narc_compose.specs.Both.{both}
+use Rattle.narc_compose.specs.BothLaws.{both_laws}
 use Rattle.narc_compose.specs.Gap.{gapped}
 use Rattle.narc_compose.specs.GapLaws.{gapped_laws}
 use Rattle.narc_compose.specs.NamedLaws.{named_laws}
@@ -21,9 +22,6 @@ use Rattle.narc_options.specs.Option.{option_fields, option_region}
 use Rattle.narc_options.specs.Laws.{option_fields_laws, option_region_laws}
 use Rattle.narc_ipv4.specs.Option.{ip_option_of, raw_ip_option, SameIpOption, ip_option_format}
 use Rattle.narc_ipv4.specs.Header.{is_version, is_header_length, is_total_length, is_flags, header_length_of, area_length_of, header_of, raw_header, SameHeader, versioned, first_octet, ip_service, ip_total, ip_lengths, ip_fragment, ip_middle, ip_before, ip_area, ip_behind, ip_fields, ip_summed, ip_head}
-
-pub both_laws : {V W : Type 0} (A : Meaning (Unit {0}) V) (B : Meaning (Unit {0}) W) → Laws A → Laws B → Laws (both A B)
-both_laws A B L M = seq_laws (λ c. c) (λ c v. c) (λ c. Unit {0}) A B L M
 
 pub ip_option_laws : Laws ip_option_format
 ip_option_laws = stripped_laws ip_option_of (λ c o. raw_ip_option o) SameIpOption option_fields option_fields_laws

@@ -3,7 +3,8 @@ ghost use Rattle.std.specs.Prelude.{◌≡◌, ℕ, ◌*◌, ◌-◌, ◌%◌, �
 ghost use Rattle.narc_ipv4.specs.Header.{is_version, is_header_length, is_total_length, is_flags, header_length_of, area_length_of};
 
 use crate::as_header::{AsHeader, RawBefore};
-use narc_compose::{Carry, Gap, Named, Seq, Strip, Then};
+use crate::part::BeforePart;
+use narc_compose::{Carry, Gap, Named, PartedFormat, Seq, Strip, Then};
 use narc_format::field;
 use narc_options::OptionRegion;
 use narc_scalar::{Octets4, Test, Where, Word};
@@ -49,29 +50,30 @@ type Source = Octets4;
 type Destination = Octets4;
 
 /// The options, in as many octets as the header's length leaves behind 20.
-pub type IpArea<'a> = Named<OptionRegion<'a>, { field::IPV4_OPTIONS }>;
+pub type IpArea = Named<OptionRegion, { field::IPV4_OPTIONS }>;
 
 /// The first 4 octets, in the context of how many octets there are.
 type Lengths = Seq<Then<FirstOctet, Tos>, TotalLength, LengthsIn>;
 
 /// The octets before the checksum.
-type Before = Seq<Lengths, Then<Then<Identification, Fragment>, Then<Ttl, Protocol>>, InFront>;
+pub(crate) type Before = Seq<
+    Lengths,
+    Then<Then<Identification, Fragment>, Then<Ttl, Protocol>>,
+    InFront,
+>;
 
 /// The octets behind the checksum.
-type Behind<'a> = Seq<Then<Source, Destination>, IpArea<'a>, OfArea>;
+type Behind = Seq<Then<Source, Destination>, IpArea, OfArea>;
 
 /// The fields of a header, where its checksum is free.
-pub type Fields<'a> = Seq<Gap<Before>, Behind<'a>, AreaOf>;
+pub type Fields = Seq<Gap<PartedFormat<BeforePart>>, Behind, AreaOf>;
 
 /// The header of an IPv4 packet (RFC 791, section 3.1), in the context of how many octets the packet and what follows it
 /// have.
 ///
 /// Octets are refused with the first field that they do not hold, or that is out of its range, at its first bit; a bad
 /// option at its own first bit; and then, where all else stands, with the checksum, at its first bit.
-pub type IpHead<'a> = Strip<
-    Named<Checked<Fields<'a>, NoPseudo>, { field::IPV4_CHECKSUM }>,
-    AsHeader,
->;
+pub type IpHead = Strip<Named<Checked<Fields, NoPseudo>, { field::IPV4_CHECKSUM }>, AsHeader>;
 
 /// The version is 4.
 pub struct IsVersion;

@@ -5,6 +5,7 @@ mod as_header;
 mod header;
 mod laws;
 mod option;
+mod part;
 #[cfg(test)]
 mod tests;
 
@@ -19,3 +20,4 @@ pub use laws::{
     ip_option_format_is_sound,
 };
 pub use option::{AsIpOption, IpOptionFormat};
+pub use part::{BeforePart, IpHeadPart};

@@ -2,20 +2,20 @@
 ghost use Rattle.std.specs.Prelude.{◌≡◌, ◌*◌, ◌<◌, ◌≤◌, length};
 ghost use Rattle.narc_format.specs.declared.field.TheConstants.{COUNT};
 
-use crate::header::IpArea;
+use crate::header::{Before, IpArea};
 use crate::{
-    AreaOf, AsHeader, InFront, IpHead, IpHeader, IsFlags, IsHeaderLength, IsTotalLength, IsVersion,
-    LengthsIn, OfArea,
+    AreaOf, AsHeader, BeforePart, InFront, IpHead, IpHeader, IsFlags, IsHeaderLength,
+    IsTotalLength, IsVersion, LengthsIn, OfArea,
 };
 use narc_bits::{Cursor, Input, MAX_FRAME, Steps, Writer};
-use narc_compose::{Gap, Named, NoContext, Seq, Strip};
+use narc_compose::{Gap, Named, NoContext, Parted, PartedFormat, Seq, Strip};
 use narc_format::field::{
     IPV4_CHECKSUM, IPV4_FLAGS, IPV4_HEADER_LENGTH, IPV4_OPTIONS, IPV4_TOS, IPV4_TOTAL_LENGTH,
     IPV4_VERSION,
 };
 use narc_format::{Fault, Field, Format};
-use narc_list::{Region, Until};
-use narc_options::{ContextOctets, OptionFields};
+use narc_list::Region;
+use narc_options::{ContextOctets, OptionAreaPart};
 use narc_packet::IpOptions;
 use narc_samples::are_one;
 use narc_scalar::{Octets4, Where, Word};
@@ -78,7 +78,7 @@ fn read<I: Input, F: Format<I>>(ctx: F::Ctx, input: &mut I) -> Result<F::Value, 
 fn read_head<'a>(there: usize, octets: &'a [u8]) -> Result<IpHeader<'a>, Fault>
     requires small { length octets.now ≤ MAX_FRAME }
 {
-    read::<Cursor<'a>, IpHead<'a>>(there, &mut Cursor::new(octets))
+    read::<Cursor<'a>, IpHead>(there, &mut Cursor::new(octets))
 }
 
 /// Writes a value by F into the room: how many bits.
@@ -130,48 +130,40 @@ fn alert_with_area(area: [u8; 4], checksum: [u8; 2]) -> [u8; 24] {
 #[test]
 fn a_header_is_these_fields_in_order(_rt: HostRuntime) {
     are_one(
-        PhantomData::<IpArea<'static>>,
+        PhantomData::<IpArea>,
+        PhantomData::<Named<Region<Parted<OptionAreaPart>, ContextOctets>, 18>>,
+    );
+    are_one(
+        PhantomData::<Before>,
         PhantomData::<
-            Named<Region<Until<'static, OptionFields, 40, ContextOctets>, ContextOctets>, 18>,
+            Seq<
+                Seq<
+                    Seq<
+                        Named<Where<Named<Where<Word<8>, IsVersion>, 13>, IsHeaderLength>, 14>,
+                        Named<Word<8>, 15>,
+                        NoContext,
+                    >,
+                    Named<Where<Word<16>, IsTotalLength>, 16>,
+                    LengthsIn,
+                >,
+                Seq<
+                    Seq<Word<16>, Named<Where<Word<16>, IsFlags>, 17>, NoContext>,
+                    Seq<Word<8>, Word<8>, NoContext>,
+                    NoContext,
+                >,
+                InFront,
+            >,
         >,
     );
     are_one(
-        PhantomData::<IpHead<'static>>,
+        PhantomData::<IpHead>,
         PhantomData::<
             Strip<
                 Named<
                     Checked<
                         Seq<
-                            Gap<
-                                Seq<
-                                    Seq<
-                                        Seq<
-                                            Named<
-                                                Where<
-                                                    Named<Where<Word<8>, IsVersion>, 13>,
-                                                    IsHeaderLength,
-                                                >,
-                                                14,
-                                            >,
-                                            Named<Word<8>, 15>,
-                                            NoContext,
-                                        >,
-                                        Named<Where<Word<16>, IsTotalLength>, 16>,
-                                        LengthsIn,
-                                    >,
-                                    Seq<
-                                        Seq<
-                                            Word<16>,
-                                            Named<Where<Word<16>, IsFlags>, 17>,
-                                            NoContext,
-                                        >,
-                                        Seq<Word<8>, Word<8>, NoContext>,
-                                        NoContext,
-                                    >,
-                                    InFront,
-                                >,
-                            >,
-                            Seq<Seq<Octets4, Octets4, NoContext>, IpArea<'static>, OfArea>,
+                            Gap<PartedFormat<BeforePart>>,
+                            Seq<Seq<Octets4, Octets4, NoContext>, IpArea, OfArea>,
                             AreaOf,
                         >,
                         NoPseudo,
@@ -202,7 +194,7 @@ fn a_header_is_read_and_written(rt: HostRuntime) {
     };
     assert!(rt; read_head(115, &HEADER) == Ok(header));
     let mut room = [0xff; 20];
-    assert!(rt; write::<Cursor<'_>, IpHead<'_>>(115, &header, &mut room) == 160);
+    assert!(rt; write::<Cursor<'_>, IpHead>(115, &header, &mut room) == 160);
     assert!(rt; room == HEADER);
 }
 

@@ -1,5 +1,7 @@
 //! The options area of a header.
 use crate::option::{ContextOctets, OptionFields};
+use crate::part::OptionAreaPart;
+use narc_compose::Parted;
 use narc_list::{Region, Until};
 
 /// Options, then nothing or an octet 0 and any others, 40 octets at most (RFC 791, section 3.1; RFC 793, section 3.1).
@@ -9,4 +11,4 @@ use narc_list::{Region, Until};
 pub type OptionArea<'a> = Until<'a, OptionFields, 40, ContextOctets>;
 
 /// An options area of as many octets as the context says.
-pub type OptionRegion<'a> = Region<OptionArea<'a>, ContextOctets>;
+pub type OptionRegion = Region<Parted<OptionAreaPart>, ContextOctets>;

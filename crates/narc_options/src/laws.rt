@@ -18,7 +18,7 @@ pub fn option_area_is_sound()
 
 /// The conditions of the rules of an area of so many octets hold.
 pub fn option_region_is_sound()
-    ensures { ⟦<OptionRegion<'static> as Format<Cursor<'static>>>⟧.meaning.sound }
+    ensures { ⟦<OptionRegion as Format<Cursor<'static>>>⟧.meaning.sound }
 {}
 
 /// The bits that stand for the fields of an option are those of the option's octets, and no others.

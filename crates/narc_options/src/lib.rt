@@ -4,6 +4,7 @@
 mod area;
 mod laws;
 mod option;
+mod part;
 #[cfg(test)]
 mod tests;
 
@@ -16,3 +17,4 @@ pub use option::{
     AnyOctets, ByKind, ContextOctets, Data, DataOf, IsKind, IsOptionLength, Kind, KindOf, Length,
     Nothing, OptionFields, RawOption,
 };
+pub use part::OptionAreaPart;

@@ -2,11 +2,11 @@
 ghost use Rattle.std.specs.Prelude.{◌≡◌, ◌*◌, ◌≤◌, length};
 
 use crate::{
-    AnyOctets, ByKind, ContextOctets, DataOf, IsKind, IsOptionLength, KindOf, OptionFields,
-    OptionRegion, RawOption,
+    AnyOctets, ByKind, ContextOctets, DataOf, IsKind, IsOptionLength, KindOf, OptionArea,
+    OptionAreaPart, OptionFields, OptionRegion, RawOption,
 };
 use narc_bits::{Cursor, Input, MAX_FRAME, Steps, Writer};
-use narc_compose::{Either, Measured, Seq, Union};
+use narc_compose::{Either, Measured, Parted, Seq, Union};
 use narc_format::{Fault, Format};
 use narc_list::{Bytes, Pad, Region, Until};
 use narc_samples::are_one;
@@ -60,7 +60,7 @@ fn read_option<'a>(octets: &'a [u8]) -> Result<RawOption<'a>, Fault>
 fn read_area<'a>(count: usize, octets: &'a [u8]) -> Result<&'a [u8], Fault>
     requires { length octets.now ≤ MAX_FRAME }
 {
-    read::<Cursor<'a>, OptionRegion<'a>>(count, &mut Cursor::new(octets))
+    read::<Cursor<'a>, OptionRegion>(count, &mut Cursor::new(octets))
 }
 
 /// The place of the unnamed fault that the octets are refused with as an area.
@@ -94,8 +94,12 @@ fn an_option_is_these_fields_in_order(_rt: HostRuntime) {
         >,
     );
     are_one(
-        PhantomData::<OptionRegion<'static>>,
-        PhantomData::<Region<Until<'static, OptionFields, 40, ContextOctets>, ContextOctets>>,
+        PhantomData::<OptionArea<'static>>,
+        PhantomData::<Until<'static, OptionFields, 40, ContextOctets>>,
+    );
+    are_one(
+        PhantomData::<OptionRegion>,
+        PhantomData::<Region<Parted<OptionAreaPart>, ContextOctets>>,
     );
 }
 
@@ -131,6 +135,6 @@ fn an_area_is_refused_at_its_first_bad_option(rt: HostRuntime) {
 fn an_area_is_filled_with_octets_0(rt: HostRuntime) {
     let options: &[u8] = &[1, 7, 2];
     let mut room = [0xff; 9];
-    assert!(rt; write::<Cursor<'_>, OptionRegion<'_>>(8, &options, &mut room) == 64);
+    assert!(rt; write::<Cursor<'_>, OptionRegion>(8, &options, &mut room) == 64);
     assert!(rt; room == [1, 7, 2, 0, 0, 0, 0, 0, 0xff]);
 }

@@ -17,8 +17,8 @@ ghost use Rattle.narc_stack.specs.Admitted.{IsAdmitted};
 use crate::as_packet::{AsPacket, Header};
 use crate::ipv4_part::Ipv4Part;
 use narc_bits::{Cursor, MAX_FRAME};
-use narc_compose::{Carry, Either, Parted, Pick, SeqTail, Strip, Union};
-use narc_eth::{ArpFormat, EthHead};
+use narc_compose::{Carry, Either, Parted, PartedFormat, Pick, SeqTail, Strip, Union};
+use narc_eth::{ArpPart, EthHead};
 use narc_format::Tail;
 use narc_list::{Bytes, Pad};
 use narc_packet::Arp;
@@ -30,7 +30,7 @@ pub(crate) const ARP: u64 = 0x0806;
 pub(crate) const IPV4: u64 = 0x0800;
 
 /// An ARP packet, and any padding behind it.
-type PaddedArp = SeqTail<ArpFormat, Pad, ShortestFrame>;
+type PaddedArp = SeqTail<PartedFormat<ArpPart>, Pad, ShortestFrame>;
 
 /// An IPv4 packet and any padding behind it, or data that is kept unread.
 type Ipv4OrOther = Union<ByIpv4, Parted<Ipv4Part>, Bytes>;

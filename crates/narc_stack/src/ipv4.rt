@@ -5,8 +5,8 @@ ghost use Rattle.narc_stack.specs.Ipv4.{content_of, zeros_of, IsPadded};
 
 use crate::as_ipv4::AsIpv4;
 use crate::content::{Content, ContentOctets, IpContent};
-use narc_compose::{Carry, Measure, Measured, SeqTail, Strip};
-use narc_ipv4::{IpHead, IpHeader};
+use narc_compose::{Carry, Measure, Measured, PartedFormat, SeqTail, Strip};
+use narc_ipv4::{IpHeadPart, IpHeader};
 use narc_list::{Pad, Region};
 use narc_transport::Ends;
 
@@ -14,8 +14,8 @@ use narc_transport::Ends;
 type PaddedContent = SeqTail<Region<IpContent, ContentOctets>, Pad, ZerosBehind>;
 
 /// An IPv4 packet (RFC 791), and any padding behind it.
-pub type Ipv4Format<'a> = Strip<
-    Measured<SeqTail<IpHead<'a>, PaddedContent, ContentOf>, OctetsThere>,
+pub type Ipv4Format = Strip<
+    Measured<SeqTail<PartedFormat<IpHeadPart>, PaddedContent, ContentOf>, OctetsThere>,
     AsIpv4,
 >;
 

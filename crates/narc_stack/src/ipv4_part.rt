@@ -9,7 +9,7 @@ use narc_packet::Ipv4;
 use std::sync::ledger::Ledger;
 
 /// The tail that `Ipv4Part` hands on to.
-pub(crate) type Ipv4PartTail<'a> = Ipv4Format<'a>;
+pub type Ipv4PartTail = Ipv4Format;
 
 /// `Ipv4Format` by its calls.
 pub struct Ipv4Part;
@@ -27,17 +27,17 @@ impl<'a> Part<Cursor<'a>> for Ipv4Part {
         cursor: &mut Cursor<'a>,
         steps: &mut Steps<L>,
     ) -> Result<Ipv4<'a>, Fault> {
-        <Ipv4PartTail<'a> as Tail<Cursor<'a>>>::read(ctx, cursor, steps)
+        <Ipv4PartTail as Tail<Cursor<'a>>>::read(ctx, cursor, steps)
     }
 
     #[tactic(auto, unfolding(crate::specs::Ipv4Part::ipv4_part))]
     fn size(ctx: (), value: &Ipv4<'a>) -> usize {
-        <Ipv4PartTail<'a> as Tail<Cursor<'a>>>::size(ctx, value)
+        <Ipv4PartTail as Tail<Cursor<'a>>>::size(ctx, value)
     }
 
     #[tactic(auto, unfolding(crate::specs::Ipv4Part::ipv4_part))]
     fn write(ctx: (), value: &Ipv4<'a>, room: &mut [u8], writer: &mut Writer) {
-        <Ipv4PartTail<'a> as Tail<Cursor<'a>>>::write(ctx, value, room, writer)
+        <Ipv4PartTail as Tail<Cursor<'a>>>::write(ctx, value, room, writer)
     }
 
     ghost laws = { ipv4_part_laws };

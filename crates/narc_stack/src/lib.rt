@@ -13,8 +13,6 @@ mod ipv4_part;
 mod judge;
 mod laws;
 mod refusal;
-#[cfg(test)]
-mod tests;
 
 pub use as_ipv4::AsIpv4;
 pub use as_packet::AsPacket;
@@ -28,7 +26,7 @@ pub use frame::{
     octets_are_a_frame_or_refused,
 };
 pub use ipv4::{ContentOf, Ipv4Format, OctetsThere, ZerosBehind};
-pub use ipv4_part::Ipv4Part;
+pub use ipv4_part::{Ipv4Part, Ipv4PartTail};
 pub use judge::{Judging, judge_frame};
 pub use laws::{canonical_octets_are_a_frame, packets_with_a_frame_are_well_formed};
 pub use refusal::Refusal;

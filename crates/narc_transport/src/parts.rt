@@ -47,7 +47,7 @@ impl<'a> Part<Cursor<'a>> for UdpPart {
 }
 
 /// The tail that `TcpPart` hands on to.
-pub(crate) type TcpPartTail<'a> = TcpFormat<'a>;
+pub(crate) type TcpPartTail = TcpFormat;
 
 /// `TcpFormat` by its calls.
 pub struct TcpPart;
@@ -65,17 +65,17 @@ impl<'a> Part<Cursor<'a>> for TcpPart {
         cursor: &mut Cursor<'a>,
         steps: &mut Steps<L>,
     ) -> Result<TcpWithOffset<'a>, Fault> {
-        <TcpPartTail<'a> as Tail<Cursor<'a>>>::read(ctx, cursor, steps)
+        <TcpPartTail as Tail<Cursor<'a>>>::read(ctx, cursor, steps)
     }
 
     #[tactic(auto, unfolding(crate::specs::Parts::tcp_part))]
     fn size(ctx: (Ends, usize), value: &TcpWithOffset<'a>) -> usize {
-        <TcpPartTail<'a> as Tail<Cursor<'a>>>::size(ctx, value)
+        <TcpPartTail as Tail<Cursor<'a>>>::size(ctx, value)
     }
 
     #[tactic(auto, unfolding(crate::specs::Parts::tcp_part))]
     fn write(ctx: (Ends, usize), value: &TcpWithOffset<'a>, room: &mut [u8], writer: &mut Writer) {
-        <TcpPartTail<'a> as Tail<Cursor<'a>>>::write(ctx, value, room, writer)
+        <TcpPartTail as Tail<Cursor<'a>>>::write(ctx, value, room, writer)
     }
 
     ghost laws = { tcp_part_laws };

@@ -34,16 +34,16 @@ use narc_sum::{CheckedTail, Pseudo};
 //     +---------------------------------------------------------//----+
 type Urgent = Word<16>;
 
-type Options<'a> = Named<OptionRegion<'a>, { field::TCP_OPTIONS }>;
+type Options = Named<OptionRegion, { field::TCP_OPTIONS }>;
 
-type Behind<'a> = SeqTail<Seq<Urgent, Options<'a>, ForSecond>, Bytes, ForFirst>;
+type Behind = SeqTail<Seq<Urgent, Options, ForSecond>, Bytes, ForFirst>;
 
-type Segment<'a> = SeqTail<Gap<TcpFront>, Behind<'a>, AreaBehind>;
+type Segment = SeqTail<Gap<TcpFront>, Behind, AreaBehind>;
 
-type Summed<'a> = Named<CheckedTail<Segment<'a>, TcpPseudo>, { field::TCP_CHECKSUM }>;
+type Summed = Named<CheckedTail<Segment, TcpPseudo>, { field::TCP_CHECKSUM }>;
 
 /// A TCP segment (RFC 793) with its offset, in the context of the addresses and of how many octets it has.
-pub type TcpFormat<'a> = Strip<Summed<'a>, AsTcp>;
+pub type TcpFormat = Strip<Summed, AsTcp>;
 
 /// The options area has what the offset leaves behind 20 octets.
 pub struct AreaBehind;

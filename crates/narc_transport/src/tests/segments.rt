@@ -4,10 +4,10 @@ use crate::parts::TcpPartTail;
 use crate::{
     AreaBehind, AsTcp, ForFirst, ForSecond, IsOffset, TcpFormat, TcpPseudo, TcpWithOffset,
 };
-use narc_compose::{Gap, Named, NoContext, Seq, SeqTail, Strip};
+use narc_compose::{Gap, Named, NoContext, Parted, Seq, SeqTail, Strip};
 use narc_format::field::{TCP_CHECKSUM, TCP_OFFSET, TCP_OPTIONS};
-use narc_list::{Bytes, Region, Until};
-use narc_options::{ContextOctets, OptionFields};
+use narc_list::{Bytes, Region};
+use narc_options::{ContextOctets, OptionAreaPart};
 use narc_packet::{Tcp, TcpOptions};
 use narc_samples::{CONNECTION_REQUEST, are_one};
 use narc_scalar::{Where, Word};
@@ -22,31 +22,24 @@ type Ends = Seq<
 
 type Words = Seq<Named<Where<Word<16>, IsOffset>, 28>, Word<16>, ForFirst>;
 
-type Options<'a> = Region<Until<'a, OptionFields, 40, ContextOctets>, ContextOctets>;
+type Options = Region<Parted<OptionAreaPart>, ContextOctets>;
 
 #[test]
 fn a_part_hands_on_to_segments(_rt: HostRuntime) {
-    are_one(
-        PhantomData::<TcpPartTail<'static>>,
-        PhantomData::<TcpFormat<'static>>,
-    );
+    are_one(PhantomData::<TcpPartTail>, PhantomData::<TcpFormat>);
 }
 
 #[test]
 fn a_segment_is_these_fields_in_order(_rt: HostRuntime) {
     are_one(
-        PhantomData::<TcpFormat<'static>>,
+        PhantomData::<TcpFormat>,
         PhantomData::<
             Strip<
                 Named<
                     CheckedTail<
                         SeqTail<
                             Gap<Seq<Ends, Words, ForSecond>>,
-                            SeqTail<
-                                Seq<Word<16>, Named<Options<'static>, 29>, ForSecond>,
-                                Bytes,
-                                ForFirst,
-                            >,
+                            SeqTail<Seq<Word<16>, Named<Options, 29>, ForSecond>, Bytes, ForFirst>,
                             AreaBehind,
                         >,
                         TcpPseudo,

@@ -2,9 +2,9 @@
 ghost use Rattle.std.specs.Prelude.{◌≤◌, length};
 
 use super::{SEGMENT, connection_request, datagram, encode, ipv4_of, packet_of, request};
-use crate::frame_size;
 use narc_packet::{EthBody, IpBody, Ipv4, Packet, is_well_formed};
 use narc_samples::{ARP_REQUEST, DATAGRAM};
+use narc_stack::frame_size;
 
 /// The octets, and octets 0 behind them.
 fn padded(octets: &[u8]) -> [u8; 60]

@@ -1,14 +1,13 @@
 //! The types that frames and their parts are built of.
-use crate::ipv4_part::Ipv4PartTail;
-use crate::{
-    AsIpv4, AsPacket, ByIpv4, ByTcp, ByType, ByUdp, ContentOctets, ContentOf, Frame, IpContent,
-    Ipv4Format, Ipv4Part, OctetsThere, ShortestFrame, TypeOfHeader, ZerosBehind,
-};
-use narc_compose::{Measured, Parted, SeqTail, Strip, Union};
-use narc_eth::{ArpFormat, EthHead};
-use narc_ipv4::IpHead;
+use narc_compose::{Measured, Parted, PartedFormat, SeqTail, Strip, Union};
+use narc_eth::{ArpPart, EthHead};
+use narc_ipv4::IpHeadPart;
 use narc_list::{Bytes, Pad, Region};
 use narc_samples::are_one;
+use narc_stack::{
+    AsIpv4, AsPacket, ByIpv4, ByTcp, ByType, ByUdp, ContentOctets, ContentOf, Frame, IpContent,
+    Ipv4Format, Ipv4Part, Ipv4PartTail, OctetsThere, ShortestFrame, TypeOfHeader, ZerosBehind,
+};
 use narc_transport::{TcpPart, UdpPart};
 use std::marker::PhantomData;
 
@@ -22,7 +21,7 @@ fn a_frame_is_a_header_and_what_its_type_says(_rt: HostRuntime) {
                     EthHead,
                     Union<
                         ByType,
-                        SeqTail<ArpFormat, Pad, ShortestFrame>,
+                        SeqTail<PartedFormat<ArpPart>, Pad, ShortestFrame>,
                         Union<ByIpv4, Parted<Ipv4Part>, Bytes>,
                     >,
                     TypeOfHeader,
@@ -36,12 +35,12 @@ fn a_frame_is_a_header_and_what_its_type_says(_rt: HostRuntime) {
 #[test]
 fn an_ipv4_packet_is_a_header_and_data_and_padding(_rt: HostRuntime) {
     are_one(
-        PhantomData::<Ipv4Format<'static>>,
+        PhantomData::<Ipv4Format>,
         PhantomData::<
             Strip<
                 Measured<
                     SeqTail<
-                        IpHead<'static>,
+                        PartedFormat<IpHeadPart>,
                         SeqTail<Region<IpContent, ContentOctets>, Pad, ZerosBehind>,
                         ContentOf,
                     >,
@@ -63,8 +62,5 @@ fn data_is_a_datagram_or_a_segment_or_unread(_rt: HostRuntime) {
 
 #[test]
 fn a_part_hands_on_to_ipv4_packets(_rt: HostRuntime) {
-    are_one(
-        PhantomData::<Ipv4PartTail<'static>>,
-        PhantomData::<Ipv4Format<'static>>,
-    );
+    are_one(PhantomData::<Ipv4PartTail>, PhantomData::<Ipv4Format>);
 }

@@ -1,7 +1,7 @@
 //! Packets that are the same, and others.
 use super::{connection_request, datagram, ipv4_of, packet_of, request};
-use crate::same;
 use narc_packet::{EthBody, IpBody, Ipv4, Packet};
+use narc_stack::same;
 
 /// The packet of a connection request with these options.
 fn segment(options: &[u8]) -> Packet<'_> {
