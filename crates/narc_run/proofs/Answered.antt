@@ -1,18 +1,29 @@
 -- Each record of octets has an answer.
-use Rattle.std.proofs.Common.{◌≡◌, ℕ, ◌+◌, ◌≤◌, Bool, true, false, List, [], ◌∷◌, ◌++◌, length, map, Option, Some, None, Ok, Err, inl, inr, refl, ap, ◌∙◌, subst, arith}
+use Rattle.std.proofs.Common.{◌≡◌, ℕ, ◌+◌, ◌≤◌, Bool, true, false, List, [], ◌∷◌, ◌++◌, length, map, Option, Some, None, Ok, Err, inl, inr, refl, sym, ap, ◌∙◌, subst, arith}
 use Rattle.std.specs.List.{AllByRecursion}
 use Rattle.std.proofs.lemmas.List.{map-append}
 use Rattle.narc_bits.specs.Octets.{IsOctets}
 use Rattle.narc_bits.specs.declared.limits.TheConstants.{MAX_FRAME}
 use Rattle.narc_bits.proofs.Octets.{IsOctets-front, IsOctets-back}
-use Rattle.narc_packet.specs.Answer.{Answer, IsAnswer}
-use Rattle.narc_stack.proofs.FrameAnswers.{either}
+use Rattle.narc_packet.specs.Answer.{Answer, IsOnlyAnswer}
+use Rattle.narc_stack.proofs.FrameAnswers.{either, one_packet, never_both}
 use Rattle.narc_pcap.specs.Capture.{Entry, is_snapped}
 use Rattle.narc_pcap.specs.Laws.{AreRecords, size_of}
 use Rattle.narc_run.specs.Findings.{Told, IsTold, AreTold, IsEntryAnswer}
 
-frame_answered : (octets : List ℕ) → IsOctets octets → length octets ≤ MAX_FRAME → (answer : Answer) × IsAnswer octets answer
-frame_answered octets each small = elim (either octets each small) [ inl p ↦ (Ok p.0, p.1) | inr r ↦ (Err r.0, r.1) ]
+frame_answered : (octets : List ℕ) → IsOctets octets → length octets ≤ MAX_FRAME → (answer : Answer) × IsOnlyAnswer octets answer
+frame_answered octets each small = elim (either octets each small) [
+  | inl p ↦ (Ok p.0, record {
+      right = p.1;
+      packet = λ q f. ap Ok (one_packet octets each p.0 q p.1 f);
+      refused = λ r h. absurd (never_both octets each p.0 r p.1 h);
+    })
+  | inr r ↦ (Err r.0, record {
+      right = r.1;
+      packet = λ q f. absurd (never_both octets each q r.0 f r.1);
+      refused = λ q h. let same : Some r.0 ≡ Some q = sym r.1 ∙ h in let one : r.0 ≡ q = cc in ap Err one;
+    })
+]
 
 entry_answered : (e : Entry) → IsOctets e.octets → length e.octets ≤ MAX_FRAME → (answer : Option Answer) × IsEntryAnswer e answer
 entry_answered e each small = at (is_snapped e.head) refl where

@@ -13,14 +13,14 @@ returns-in_err-put_answer-clause-told g c =
     let before = g.K.Sink.held c.args.sink.now in
     let after = g.K.Sink.held c.put_answer.new.sink in
     MatchResult-failed c.from_residual.result _ (IsCut octets before after) c.from_residual.ensures.0
-    (IsCut-front octets c.requires (answer_view c.decode_frame-answer.result) before after c.decode_frame-answer.ensures.answer c.in_err-put_answer.ensures.pushed)
+    (IsCut-front octets c.requires (answer_view c.decode_frame-answer.result) before after c.decode_frame-answer.ensures.only c.in_err-put_answer.ensures.pushed)
 
 pub returns-clause-told : goal.returns-clause-told
 returns-clause-told g c =
     let octets = c.args.octets.now in
     let before = g.K.Sink.held c.args.sink.now in
     let after = g.K.Sink.held c.put_answer.new.sink in
-    let told = IsAnswered-whole octets c.requires (answer_view c.decode_frame-answer.result) before after c.decode_frame-answer.ensures.answer c.in_ok-put_answer.ensures.pushed in
+    let told = IsAnswered-whole octets c.requires (answer_view c.decode_frame-answer.result) before after c.decode_frame-answer.ensures.only c.in_ok-put_answer.ensures.pushed in
     elim c.match-answer.branch [
       | in-Ok w ↦ subst (λ r. MatchResult r (λ outcome. IsAnswered octets outcome.status outcome.at before after) (λ _. IsCut octets before after)) (sym w.result-is)
           (subst (λ outcome. IsAnswered octets outcome.status outcome.at before after) (sym w.done.ensures)
