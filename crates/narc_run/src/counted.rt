@@ -9,7 +9,57 @@ use narc_world::{Sink, Source, Words};
 use std::alloc::Global;
 use std::sync::ledger::{Blank, Ledger};
 
+/// How a run ended, and the steps that it took.
+#[derive(Drop)]
+pub struct Counted<L: Ledger, J: Ledger> {
+    pub outcome: Outcome,
+    pub steps: RunSteps<L, J>,
+}
+
 /// Does the job of the words with two new counts of steps, one of decoding and one of judging: what `run` promises, from 0.
+pub fn count_run<S: Source, K: Sink, L: Ledger, J: Ledger>(
+    alloc: Global,
+    words: &Words,
+    source: &mut S,
+    sink: &mut K,
+    decoding: Blank,
+    judging: Blank,
+) -> Counted<L, J>
+    requires decoding_name { decoding.name ≡ L.name }
+    requires decoding_parts { decoding.parts ≡ L.parts }
+    requires decoding_one { decoding.parts ≡ 1 }
+    requires judging_name { judging.name ≡ J.name }
+    requires judging_parts { judging.parts ≡ J.parts }
+    requires judging_one { judging.parts ≡ 1 }
+    ensures status { result.outcome.status ≤ 7 }
+    ensures usage { IsUsage words.now result.outcome.status result.outcome.at 0 result.steps (source.new ≡ source.old) }
+    ensures limit { IsPassing words.now result.outcome.status }
+    ensures memory { IsWant words.now result.outcome.status result.outcome.at (source.new ≡ source.old) (sink.new ≡ sink.old) }
+    ensures faults { AreCounted result.outcome.status result.outcome.at (S.faults source.old) (S.faults source.new) (K.faults sink.old) (K.faults sink.new) }
+    ensures unread { WhereUnread words.now (λ u. IsUnreadRun u result.outcome.status result.outcome.at (K.held sink.old) (K.held sink.new) (K.faults sink.old) (K.faults sink.new) 0 result.steps (source.new ≡ source.old)) }
+    ensures writing { IsRightWriting words.now result.outcome.status (K.held sink.old) (K.held sink.new) }
+    ensures octets { WhereTold (S.left source.old) (S.left source.new) (λ input rest. IsRightRun (record {
+      words = words.now;
+      input = input;
+      rest = rest;
+      held_before = K.held sink.old;
+      held_after = K.held sink.new;
+      source_before = S.faults source.old;
+      source_after = S.faults source.new;
+      sink_before = K.faults sink.old;
+      sink_after = K.faults sink.new;
+      steps_before = 0;
+      steps_after = result.steps;
+      status = result.outcome.status;
+      at = result.outcome.at;
+    })) }
+{
+    let mut steps = RunSteps::<L, J>::new(decoding, judging);
+    let outcome = run(alloc, words, source, sink, &mut steps);
+    Counted { outcome, steps }
+}
+
+/// Does the same, and drops the counts: so of the steps its clauses say nothing.
 pub fn run_counted<S: Source, K: Sink, L: Ledger, J: Ledger>(
     alloc: Global,
     words: &Words,
@@ -47,6 +97,6 @@ pub fn run_counted<S: Source, K: Sink, L: Ledger, J: Ledger>(
       at = result.at;
     })) }
 {
-    let mut steps = RunSteps::<L, J>::new(decoding, judging);
-    run(alloc, words, source, sink, &mut steps)
+    let counted: Counted<L, J> = count_run(alloc, words, source, sink, decoding, judging);
+    counted.outcome
 }
