@@ -1,9 +1,11 @@
 //! The words of the command line.
-ghost use Rattle.std.specs.Prelude.{◌≡◌, IfErr, ◌⊎◌};
+ghost use Rattle.std.specs.Prelude.{◌≡◌, IfErr, IfOk, ◌⊎◌, drop, map, string_bytes};
+ghost use Rattle.std.specs.Vec.Iter.{into_iter_items};
 ghost use Rattle.narc.specs.Arguments.{arguments_status};
 
 use narc_run::Outcome;
-use narc_world::Words;
+use narc_world::{NoMemory, Words};
+use std::alloc::Global;
 use std::env;
 use std::io::ErrorKind;
 use std::rt::Env;
@@ -30,6 +32,18 @@ fn without_arguments(cause: ErrorKind) -> Outcome
     }
 }
 
+/// The words behind the first argument, which is the program's name.
+fn words_behind(alloc: Global, mut arguments: env::Args) -> Result<Words, NoMemory>
+    ensures { IfOk result (λ words. words ≡ map string_bytes (drop 1 (into_iter_items arguments))) }
+{
+    let mut words = Words::new(alloc);
+    let _name = arguments.next();
+    for argument in arguments {
+        words.add(argument.as_str())?;
+    }
+    Ok(words)
+}
+
 /// The arguments behind the program's name, or how the program ends without them.
 pub fn words_of<R: Env + AllocGlobal>(rt: &R) -> Result<Words, Outcome>
     ensures status { IfErr result (λ outcome. (outcome.status ≡ 4) ⊎ (outcome.status ≡ 8)) }
@@ -39,11 +53,8 @@ pub fn words_of<R: Env + AllocGlobal>(rt: &R) -> Result<Words, Outcome>
         Ok(arguments) => arguments,
         Err(error) => return Err(without_arguments(error.kind())),
     };
-    let mut words = Words::new(rt.alloc());
-    for argument in arguments.skip(1) {
-        if words.add(argument.as_str()).is_err() {
-            return Err(without_arguments(ErrorKind::OutOfMemory));
-        }
+    match words_behind(rt.alloc(), arguments) {
+        Ok(words) => Ok(words),
+        Err(_) => Err(without_arguments(ErrorKind::OutOfMemory)),
     }
-    Ok(words)
 }
