@@ -1,5 +1,5 @@
 -- How a job ends that reads a capture, by what was read of it and found so far.
-use Rattle.std.proofs.Common.{◌≡◌, ℕ, ◌+◌, ◌≤◌, ◌⊎◌, inl, inr, false, List, [], ◌∷◌, ◌++◌, length, take, drop, Option, Some, None, Result, Ok, Err, refl, sym, ap, ◌∙◌, subst, append_assoc, zero-add, arith, length-append, length-take}
+use Rattle.std.proofs.Common.{◌≡◌, ℕ, ◌+◌, ◌≤◌, ◌⊎◌, inl, inr, false, List, [], ◌∷◌, ◌++◌, length, take, drop, Option, Some, Result, Ok, Err, refl, sym, ap, ◌∙◌, subst, append_assoc, zero-add, arith, length-append, length-take}
 use Rattle.std.specs.Prelude.{IsTrue, sum_by}
 use Rattle.std.proofs.lemmas.List.{length-take-le, take-append-drop}
 use Rattle.narc_bits.specs.declared.limits.TheConstants.{MAX_FRAME}
@@ -16,7 +16,7 @@ use Rattle.narc_pcap.specs.Reading.{Reading, Holds, Exceeds, IsFresh, IsShort, t
 use Rattle.narc_pcap.specs.Reading as reading
 use Rattle.narc_pcap.proofs.Cuts.{whole_of}
 use Rattle.narc_run.specs.declared.outcome.Outcome.{Outcome}
-use Rattle.narc_run.specs.Job.{CaptureJob, Capture, Show, Check}
+use Rattle.narc_run.specs.Job.{CaptureJob, Capture}
 use Rattle.narc_run.specs.Findings.{Told, Findings, AreTold, frames, frame_cost}
 use Rattle.narc_run.specs.Output.{capture_body, capture_end, body, output}
 use Rattle.narc_run.specs.Verdict.{Verdict, verdict, verdict_of, end_verdict, records_status}
@@ -239,11 +239,6 @@ frame_fits reader now y z head passes =
     let whole = whole_of reader.header.big reader.place (reader.hand ++ passes.pulled) head passes.is in
     omega (arith, whole.size, ap length passes.frame, length-take head.captured (drop 16 (reader.hand ++ passes.pulled)))
 
--- nothing is written of what has no header
-no_body : (j : CaptureJob) → capture_body j None [] ≡ []
-no_body Show = refl
-no_body Check = refl
-
 module _ (j : CaptureJob) (fresh now : Reading) (x z a d : Option (List ℕ)) (s : ℕ) (is_fresh : IsFresh fresh) (holds : Holds fresh now x z) (reach : taken now ≤ CAPTURE_LIMIT)
     (end : End) (is : capture now.hand ≡ no_header end) where
   taken_all : holds.pulled ≡ now.hand
@@ -260,11 +255,10 @@ module _ (j : CaptureJob) (fresh now : Reading) (x z a d : Option (List ℕ)) (s
   none_told = subst (λ l. AreTold l []) (sym (ap (λ (v : CaptureView). v.entries) is)) (record { same = refl; right = tt })
 
   none_output : output (Capture j) now.hand (found_of []) ≡ capture_end j [] end
-  none_output =
-      ap (λ (v : CaptureView). capture_body j v.header [] ++ capture_end j [] v.end) is ∙ ap (λ l. l ++ capture_end j [] end) (no_body j)
+  none_output = ap (λ (v : CaptureView). capture_body j v.header [] ++ capture_end j [] v.end) is
 
   none_body : body (Capture j) now.hand (found_of []) ≡ []
-  none_body = ap (λ (v : CaptureView). capture_body j v.header []) is ∙ no_body j
+  none_body = ap (λ (v : CaptureView). capture_body j v.header []) is
 
   module _ (settled : IsEmptyWhereTold z ⊎ IsTrue (is_bad end)) where
     settles : IsEmptyWhereTold z ⊎ IsTrue (is_bad (capture now.hand).end)

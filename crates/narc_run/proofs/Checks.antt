@@ -1,32 +1,25 @@
 -- What a check counts, and how it ends.
-use Rattle.std.proofs.Common.{◌≡◌, ℕ, zero, suc, ◌+◌, ◌<◌, ◌≤◌, ◌⊎◌, Bool, true, false, List, [], ◌∷◌, ◌++◌, codes, length, Option, Some, None, Result, Ok, Err, refl, sym, ap, ◌∙◌, subst, arith, append_assoc}
-use Rattle.std.specs.Prelude.{IsTrue, cond, count_by, flat_map, nat_eq, slice_index, if◌then◌else◌}
+use Rattle.std.proofs.Common.{◌≡◌, ℕ, zero, suc, ◌+◌, ◌<◌, Bool, true, false, List, [], ◌∷◌, ◌++◌, codes, length, Option, Some, None, Result, Ok, Err, refl, sym, ap, ◌∙◌, arith, append_assoc}
+use Rattle.std.specs.Prelude.{cond, count_by, flat_map, nat_eq, slice_index, if◌then◌else◌}
 use Rattle.std.specs.List.{range_with_len}
 use Rattle.std.proofs.lemmas.List.{flat_map_more}
 use Rattle.std.proofs.lemmas.List.Sums.{count_by-le-length}
 use Rattle.narc_format.specs.declared.field.TheConstants.{COUNT}
-use Rattle.narc_world.specs.declared.error.Failed.{Failed}
-use Rattle.narc_world.specs.Outside.{IsEmptyWhereTold, Appends}
 use Rattle.narc_packet.specs.Answer.{Answer}
 use Rattle.narc_pcap.specs.declared.limit.TheConstants.{CAPTURE_LIMIT}
 use Rattle.narc_pcap.specs.declared.record.End.{End}
-use Rattle.narc_pcap.specs.Capture.{Entry, front, capture, no_header, is_bad}
-use Rattle.narc_pcap.specs.Reading.{Reading, Holds, IsFresh, taken}
+use Rattle.narc_pcap.specs.Capture.{Entry}
 use Rattle.narc_stack.specs.declared.refusal.Refusal.{Refusal}
 use Rattle.narc_run.specs.declared.counts.Counts.{Counts}
-use Rattle.narc_run.specs.declared.outcome.Outcome.{Outcome}
 use Rattle.narc_run.specs.declared.tally.Tally.{Tally}
 use Rattle.narc_run.specs.Job.{Check}
 use Rattle.narc_run.specs.Findings.{Told}
 use Rattle.narc_run.specs.EntryJudgement.{entry_judgement, entry_judged}
 use Rattle.narc_run.specs.Output.{is_refused_for, refused_line, refused_lines, count_line, check_end, checked}
-use Rattle.narc_run.specs.Verdict.{end_verdict, records_status}
-use Rattle.narc_run.specs.Run.{WroteFront}
+use Rattle.narc_run.specs.Verdict.{records_status}
 use Rattle.narc_run.specs.Tallies.{tally_of, tally_after}
 use Rattle.narc_run.specs.Counting.{AreCounts, HaveRoom, AddsRefusal, refusals_of, refusal_lines, counts_lines, counts_status}
-use Rattle.narc_run.specs.CaptureRun.{IsShown, CaptureRun}
-use Rattle.narc_run.proofs.Walks.{ReadSoFar, roomy, counted_on, count-push}
-use Rattle.narc_run.proofs.CaptureSoFar.{judged, stopped_last, headless_judged, headless_stopped}
+use Rattle.narc_run.proofs.Walks.{roomy, counted_on, count-push}
 
 abbrev Judged : Type 0
 Judged = Option (Result (Unit {0}) Refusal)
@@ -68,18 +61,11 @@ counted_more old now told entry answer judged are same tally adds = record {
       ∙ sym (count-push (is_refused_for field) told t (refusals_of field judged) (refusals_alike field entry answer judged same));
 }
 
--- What was read of a capture so far is counted.
-pub record ChecksSoFar (reader : Reading) (counts : Counts) (left left_now : Option (List ℕ)) (steps steps_now : ℕ) : Type 0 where
-  pub read : ReadSoFar reader left left_now steps steps_now
-  pub counted : AreCounts counts read.told
-
 -- each count has room
-pub has_room : (counts : Counts) (reader : Reading) (x y : Option (List ℕ)) (s0 s1 : ℕ) (so_far : ReadSoFar reader x y s0 s1) → AreCounts counts so_far.told
-    → reader.place + length reader.hand ≤ CAPTURE_LIMIT → HaveRoom counts
-has_room counts reader x y s0 s1 so_far are reach = record {
-  tally = roomy reader counts.tally x y s0 s1 so_far are.tally reach;
-  refused = λ field within.
-      omega (arith, are.refused field within, count_by-le-length (is_refused_for field) so_far.told, so_far.few, so_far.place, reach);
+pub has_room : (counts : Counts) (told : List Told) → AreCounts counts told → length told < CAPTURE_LIMIT → HaveRoom counts
+has_room counts told are few = record {
+  tally = roomy counts.tally told are.tally few;
+  refused = λ field within. omega (arith, are.refused field within, count_by-le-length (is_refused_for field) told, few);
 }
 
 -- ---- the lines
@@ -127,35 +113,10 @@ refused_is counts told are =
     same_lines (λ field. refused_line field (slice_index counts.refused field)) (λ field. refused_line field (count_by (is_refused_for field) told)) 1 COUNT
     (λ field within. ap (refused_line field) (are.refused field (omega (arith, within))))
 
-lines_are : (counts : Counts) (told : List Told) (end : End) → AreCounts counts told → counts_lines counts.tally counts.refused end ≡ checked told end
+pub lines_are : (counts : Counts) (told : List Told) (end : End) → AreCounts counts told → counts_lines counts.tally counts.refused end ≡ checked told end
 lines_are counts told end are =
     ap (λ (t : Tally). counts_lines t counts.refused end) are.tally
     ∙ ap (λ l. (count_line (codes "packets") (tally_of told).packets ++ count_line (codes "snapped") (tally_of told).snapped ++ l) ++ check_end (length told) end) (refused_is counts told are)
 
-status_is : (counts : Counts) (told : List Told) → AreCounts counts told → counts_status counts.tally ≡ records_status Check told
+pub status_is : (counts : Counts) (told : List Told) → AreCounts counts told → counts_status counts.tally ≡ records_status Check told
 status_is counts told are = ap (λ (t : Tally). counts_status t) are.tally
-
--- ---- the end
-
-module _ (counts : Counts) (end : End) (a d : Option (List ℕ)) where
-  abbrev pub TellsCounts : Result Outcome Failed → Type 0
-  TellsCounts r = IsShown r (counts_lines counts.tally counts.refused end) (end_verdict (counts_status counts.tally) end) a d
-
-  pub ended : (reader now : Reading) (x y z : Option (List ℕ)) (s0 s1 : ℕ) (so_far : ReadSoFar reader x y s0 s1) → AreCounts counts so_far.told
-      → Holds reader now y z → front reader.header.big reader.place now.hand ≡ Err end → taken now ≤ CAPTURE_LIMIT
-      → IsEmptyWhereTold z ⊎ IsTrue (is_bad end) → (r : Result Outcome Failed) → TellsCounts r → CaptureRun Check x z a d s0 s1 r
-  ended reader now x y z s0 s1 so_far are holds is reach settled (Ok o) h =
-      judged Check reader now x y z a d s0 s1 so_far end holds is reach settled o (h.0 ∙ ap (λ n. end_verdict n end) (status_is counts so_far.told are))
-      (subst (λ l. Appends l a d) (lines_are counts so_far.told end are) h.1)
-  ended reader now x y z s0 s1 so_far are holds is reach settled (Err f) h =
-      stopped_last Check reader now x y z a d s0 s1 so_far end holds is reach settled f
-      (subst (λ l. WroteFront l a d) (lines_are counts so_far.told end are) h)
-
-  pub headless : (fresh now : Reading) (x z : Option (List ℕ)) (s : ℕ) → IsFresh fresh → Holds fresh now x z → taken now ≤ CAPTURE_LIMIT → capture now.hand ≡ no_header end
-      → AreCounts counts [] → IsEmptyWhereTold z ⊎ IsTrue (is_bad end) → (r : Result Outcome Failed) → TellsCounts r → CaptureRun Check x z a d s s r
-  headless fresh now x z s is_fresh holds reach is are settled (Ok o) h =
-      headless_judged Check fresh now x z a d s is_fresh holds reach end is settled o (h.0 ∙ ap (λ n. end_verdict n end) (status_is counts [] are))
-      (subst (λ l. Appends l a d) (lines_are counts [] end are) h.1)
-  headless fresh now x z s is_fresh holds reach is are settled (Err f) h =
-      headless_stopped Check fresh now x z a d s is_fresh holds reach end is settled f
-      (subst (λ l. WroteFront l a d) (lines_are counts [] end are) h)

@@ -1,20 +1,20 @@
 //! The job `check`: how many packets and refusals a capture has.
-ghost use Rattle.std.specs.Prelude.{◌≡◌, ◌+◌, ◌*◌, ◌-◌, ◌≤◌, ◌++◌, ◌∷◌, [], decimal, length, IfOk, OnErr};
-ghost use Rattle.narc_world.specs.Outside.{CountsFaults};
+ghost use Rattle.std.specs.Prelude.{◌≡◌, ◌+◌, ◌*◌, ◌-◌, ◌≤◌, ◌++◌, ◌∷◌, [], decimal, length};
 ghost use Rattle.narc_format.specs.declared.field.TheConstants.{COUNT};
 ghost use Rattle.narc_run.specs.Job.{Check};
 ghost use Rattle.narc_run.specs.Output.{check_end, refused_line};
-ghost use Rattle.narc_run.specs.Verdict.{end_verdict};
-ghost use Rattle.narc_run.specs.Counting.{counts_lines, counts_status, refusal_lines};
-ghost use Rattle.narc_run.specs.CaptureRun.{CaptureRun, EndsCapture, IsShown};
+ghost use Rattle.narc_run.specs.Counting.{AreCounts, counts_lines, refusal_lines};
+ghost use Rattle.narc_run.specs.CaptureRun.{EndsCapture};
 ghost use Rattle.narc_run.specs.Run.{AreCounted};
 
 use crate::counts::{Counts, NUMBERS};
 use crate::entry::judge_record;
 use crate::outcome::Outcome;
 use crate::steps::RunSteps;
+use crate::visitor::Visitor;
+use crate::walk::run_walk;
 use narc_format::{Field, field};
-use narc_pcap::{End, LONGEST_RECORD, Next, Reader, Started};
+use narc_pcap::{End, Header, LONGEST_RECORD, Reader, Record};
 use narc_text::{PAGE_SIZE, Page, put_decimal};
 use narc_world::{Failed, Sink, Source};
 use std::sync::ledger::Ledger;
@@ -89,47 +89,35 @@ fn put_counts(counts: &Counts, end: End, page: &mut Page)
     put_end(counts.tally.records, end, page);
 }
 
-/// Writes the counts of a capture that ended so.
-fn end_check<K: Sink>(counts: &Counts, end: End, sink: &mut K) -> Result<Outcome, Failed>
-    ensures printed { IsShown result (counts_lines counts.now.tally counts.now.refused end) (end_verdict (counts_status counts.now.tally) end) (K.held sink.old) (K.held sink.new) }
-    ensures faults { CountsFaults (OnErr result) (K.faults sink.old) (K.faults sink.new) }
-{
-    let mut page = Page::new();
-    put_counts(counts, end, &mut page);
-    page.flush(sink)?;
-    Ok(Outcome::of_capture(counts.status(), end))
-}
+impl Visitor for Counts {
+    ghost job = { λ counts. Check };
 
-/// Reads a capture from the source, and counts its records; what it counted is written when it ended.
-fn check<S: Source, K: Sink, L: Ledger, J: Ledger>(
-    input: Vec<u8>,
-    source: &mut S,
-    sink: &mut K,
-    steps: &mut RunSteps<L, J>,
-) -> Result<Outcome, Failed>
-    requires { LONGEST_RECORD ≤ length input.items }
-    ensures run { CaptureRun Check (S.left source.old) (S.left source.new) (K.held sink.old) (K.held sink.new) steps.old steps.new result }
-    ensures source_faults { CountsFaults (λ rose. IfOk result (λ outcome. outcome.status ≡ 5 → rose)) (S.faults source.old) (S.faults source.new) }
-    ensures status { IfOk result (λ outcome. (outcome.status ≡ 6 → ⊥) × (outcome.status ≤ 7)) }
-    ensures sink_faults { CountsFaults (OnErr result) (K.faults sink.old) (K.faults sink.new) }
-{
-    let mut reader = Reader::new(input);
-    let mut counts = Counts::new();
-    match reader.start(source) {
-        Started::Ok(_) => {}
-        Started::Torn => return end_check(&counts, End::Torn(0), sink),
-        Started::Bad(at) => return end_check(&counts, End::Bad(at), sink),
-        Started::ReadFault => return Ok(Outcome::source_fault(reader.taken())),
+    ghost saw = { λ counts header told. AreCounts counts told };
+
+    fn header<K: Sink>(&mut self, _: &Header, _: &mut Page, _: &mut K) -> Result<(), Failed> {
+        Ok(())
     }
-    'records: loop {
-        match reader.next(source) {
-            Next::Rec(record) => counts.count(&judge_record(&record, reader.frame(), steps)),
-            Next::End => return end_check(&counts, End::Clean, sink),
-            Next::Torn(at) => return end_check(&counts, End::Torn(at), sink),
-            Next::Bad(at) => return end_check(&counts, End::Bad(at), sink),
-            Next::ReadFault => return Ok(Outcome::source_fault(reader.taken())),
-            Next::Long => return Ok(Outcome::limit()),
-        }
+
+    fn record<K: Sink, L: Ledger, J: Ledger>(
+        &mut self,
+        head: &Record,
+        reader: &mut Reader,
+        _: &mut Page,
+        _: &mut K,
+        steps: &mut RunSteps<L, J>,
+    ) -> Result<(), Failed> {
+        self.count(&judge_record(head, reader.frame(), steps));
+        Ok(())
+    }
+
+    fn end<K: Sink>(&self, end: End, page: &mut Page, sink: &mut K) -> Result<(), Failed> {
+        page.make_room(2 * REFUSALS, sink)?;
+        put_counts(self, end, page);
+        Ok(())
+    }
+
+    fn status(&self) -> u8 {
+        if self.tally.refused == 0 { 0 } else { 1 }
     }
 }
 
@@ -145,8 +133,5 @@ pub(crate) fn run_check<S: Source, K: Sink, L: Ledger, J: Ledger>(
     ensures status { result.status ≤ 7 }
     ensures faults { AreCounted result.status result.at (S.faults source.old) (S.faults source.new) (K.faults sink.old) (K.faults sink.new) }
 {
-    match check(input, source, sink, steps) {
-        Ok(outcome) => outcome,
-        Err(_) => Outcome::sink_fault(),
-    }
+    run_walk(&mut Counts::new(), input, source, sink, steps)
 }

@@ -1,6 +1,6 @@
 //! What a check counts.
 ghost use Rattle.std.specs.Prelude.{◌≡◌, ◌+◌, ◌<◌, ◌^◌, [], length, slice_index, slice_set};
-ghost use Rattle.narc_run.specs.Counting.{AddsRefusal, AreCounts, HaveRoom, counts_status};
+ghost use Rattle.narc_run.specs.Counting.{AddsRefusal, AreCounts, HaveRoom};
 ghost use Rattle.narc_run.specs.Tallies.{tally_after};
 
 use crate::entry::Judged;
@@ -37,13 +37,6 @@ impl Counts {
         if let Some(Err(refusal)) = judged {
             add_one(&mut self.refused, usize::from(refusal.field.number()));
         }
-    }
-
-    /// The status of a capture that ends well: 1 where a record was refused.
-    pub(crate) fn status(&self) -> u8
-        ensures { result ≡ counts_status self.now.tally }
-    {
-        if self.tally.refused == 0 { 0 } else { 1 }
     }
 }
 

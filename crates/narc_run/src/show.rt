@@ -1,19 +1,20 @@
 //! The job `show`: a capture as text, record by record.
-ghost use Rattle.std.specs.Prelude.{◌≡◌, ◌+◌, ◌≤◌, ◌++◌, [], length, IfOk, OnErr};
+ghost use Rattle.std.specs.Prelude.{◌≡◌, ◌+◌, ◌≤◌, ◌++◌, length, OnErr};
 ghost use Rattle.narc_world.specs.Outside.{CountsFaults};
 ghost use Rattle.narc_text.specs.Printing.{IsPrinted};
 ghost use Rattle.narc_run.specs.Job.{Show};
 ghost use Rattle.narc_run.specs.Output.{header_line};
-ghost use Rattle.narc_run.specs.Tallies.{tally_line};
-ghost use Rattle.narc_run.specs.Verdict.{end_verdict};
-ghost use Rattle.narc_run.specs.CaptureRun.{CaptureRun, EndsCapture, IsShown};
+ghost use Rattle.narc_run.specs.Tallies.{tally_line, tally_of};
+ghost use Rattle.narc_run.specs.CaptureRun.{EndsCapture};
 ghost use Rattle.narc_run.specs.Run.{AreCounted};
 
 use crate::entry::{answer_record, print_record};
 use crate::outcome::Outcome;
 use crate::steps::RunSteps;
 use crate::tally::Tally;
-use narc_pcap::{End, Header, LONGEST_RECORD, Next, Reader, Started, Unit};
+use crate::visitor::Visitor;
+use crate::walk::run_walk;
+use narc_pcap::{End, Header, LONGEST_RECORD, Reader, Record, Unit};
 use narc_text::{LINE, PAGE_SIZE, Page, put_decimal};
 use narc_world::{Failed, Sink, Source};
 use std::sync::ledger::Ledger;
@@ -75,81 +76,47 @@ fn put_counts(tally: &Tally, page: &mut Page)
     page.put(b"\n");
 }
 
-/// Prints the last line, and pushes all that is on the page.
-fn end_capture<K: Sink>(
-    end: End,
-    tally: &Tally,
-    page: &mut Page,
-    sink: &mut K,
-) -> Result<Outcome, Failed>
-    ensures printed { IsShown result (page.old ++ tally_line tally.now end) (end_verdict 0 end) (K.held sink.old) (K.held sink.new) }
-    ensures faults { CountsFaults (OnErr result) (K.faults sink.old) (K.faults sink.new) }
-{
-    page.make_room(LINE, sink)?;
-    put_end(end, tally, page);
-    page.flush(sink)?;
-    Ok(Outcome::of_capture(0, end))
+/// Lists the records, and counts them.
+#[derive(Drop)]
+struct Lister {
+    tally: Tally,
 }
 
-/// Pushes all that is on the page, and ends with this outcome.
-fn end_early<K: Sink>(outcome: Outcome, page: &mut Page, sink: &mut K) -> Result<Outcome, Failed>
-    ensures printed { IsShown result page.old (record { status = outcome.status; at = outcome.at }) (K.held sink.old) (K.held sink.new) }
-    ensures faults { CountsFaults (OnErr result) (K.faults sink.old) (K.faults sink.new) }
-{
-    page.flush(sink)?;
-    Ok(outcome)
-}
+impl Visitor for Lister {
+    ghost job = { λ lister. Show };
 
-/// Pushes all that is on the page before a record that has to be pulled, so that who reads sees the lines at once.
-fn tell_waiting<K: Sink>(reader: &Reader, page: &mut Page, sink: &mut K) -> Result<(), Failed>
-    ensures printed { IsPrinted result [] page.old page.new (K.held sink.old) (K.held sink.new) }
-    ensures faults { CountsFaults (OnErr result) (K.faults sink.old) (K.faults sink.new) }
-{
-    if reader.is_ready() {
-        return Ok(());
+    ghost saw = { λ lister header told. lister.tally ≡ tally_of told };
+
+    fn header<K: Sink>(
+        &mut self,
+        header: &Header,
+        page: &mut Page,
+        sink: &mut K,
+    ) -> Result<(), Failed> {
+        print_header(header, page, sink)
     }
-    page.flush(sink)
-}
 
-/// Reads a capture from the source, and prints it as it comes.
-fn show<S: Source, K: Sink, L: Ledger, J: Ledger>(
-    input: Vec<u8>,
-    source: &mut S,
-    sink: &mut K,
-    steps: &mut RunSteps<L, J>,
-) -> Result<Outcome, Failed>
-    requires { LONGEST_RECORD ≤ length input.items }
-    ensures run { CaptureRun Show (S.left source.old) (S.left source.new) (K.held sink.old) (K.held sink.new) steps.old steps.new result }
-    ensures source_faults { CountsFaults (λ rose. IfOk result (λ outcome. outcome.status ≡ 5 → rose)) (S.faults source.old) (S.faults source.new) }
-    ensures status { IfOk result (λ outcome. (outcome.status ≡ 6 → ⊥) × (outcome.status ≤ 7)) }
-    ensures sink_faults { CountsFaults (OnErr result) (K.faults sink.old) (K.faults sink.new) }
-{
-    let mut reader = Reader::new(input);
-    let mut page = Page::new();
-    let mut tally = Tally::new();
-    let header = match reader.start(source) {
-        Started::Ok(header) => header,
-        Started::Torn => return end_capture(End::Torn(0), &tally, &mut page, sink),
-        Started::Bad(at) => return end_capture(End::Bad(at), &tally, &mut page, sink),
-        Started::ReadFault => return Ok(Outcome::source_fault(reader.taken())),
-    };
-    print_header(&header, &mut page, sink)?;
-    'records: loop {
-        tell_waiting(&reader, &mut page, sink)?;
-        match reader.next(source) {
-            Next::Rec(record) => {
-                let answer = answer_record(&record, reader.frame(), steps);
-                tally.count(&answer);
-                print_record(&record, &answer, &mut page, sink)?;
-            }
-            Next::End => return end_capture(End::Clean, &tally, &mut page, sink),
-            Next::Torn(at) => return end_capture(End::Torn(at), &tally, &mut page, sink),
-            Next::Bad(at) => return end_capture(End::Bad(at), &tally, &mut page, sink),
-            Next::ReadFault => {
-                return end_early(Outcome::source_fault(reader.taken()), &mut page, sink);
-            }
-            Next::Long => return end_early(Outcome::limit(), &mut page, sink),
-        }
+    fn record<K: Sink, L: Ledger, J: Ledger>(
+        &mut self,
+        head: &Record,
+        reader: &mut Reader,
+        page: &mut Page,
+        sink: &mut K,
+        steps: &mut RunSteps<L, J>,
+    ) -> Result<(), Failed> {
+        let answer = answer_record(head, reader.frame(), steps);
+        self.tally.count(&answer);
+        print_record(head, &answer, page, sink)
+    }
+
+    fn end<K: Sink>(&self, end: End, page: &mut Page, sink: &mut K) -> Result<(), Failed> {
+        page.make_room(LINE, sink)?;
+        put_end(end, &self.tally, page);
+        Ok(())
+    }
+
+    fn status(&self) -> u8 {
+        0
     }
 }
 
@@ -165,8 +132,8 @@ pub(crate) fn run_show<S: Source, K: Sink, L: Ledger, J: Ledger>(
     ensures status { result.status ≤ 7 }
     ensures faults { AreCounted result.status result.at (S.faults source.old) (S.faults source.new) (K.faults sink.old) (K.faults sink.new) }
 {
-    match show(input, source, sink, steps) {
-        Ok(outcome) => outcome,
-        Err(_) => Outcome::sink_fault(),
-    }
+    let mut lister = Lister {
+        tally: Tally::new(),
+    };
+    run_walk(&mut lister, input, source, sink, steps)
 }

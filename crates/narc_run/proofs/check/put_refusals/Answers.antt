@@ -1,4 +1,4 @@
-use Rattle.std.proofs.Common.{◌+◌, ◌++◌, sym, ap, ◌∙◌, append-nil, arith}
+use Rattle.std.proofs.Common.{◌++◌, sym, ap, ◌∙◌, append-nil, arith}
 use Rattle.narc_run.proofs.Checks.{refusal_lines_none, refusal_lines_more}
 use Rattle.narc_run.proofs.check.put_refusals.Goals as goal
 
