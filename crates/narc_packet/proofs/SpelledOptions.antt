@@ -1,14 +1,16 @@
 -- Octets that spell options and nothing else.
-use Rattle.std.proofs.Common.{◌≡◌, ◌≢◌, ◌↔◌, ℕ, zero, suc, ◌+◌, ◌*◌, ◌/◌, ◌%◌, ◌<◌, ◌≤◌, ◌^◌, Result, Ok, Err, List, [], ◌∷◌, ◌++◌, length, length-append, append-nil, map, refl, sym, ap, ◌∙◌, subst, arith}
+use Rattle.std.proofs.Common.{◌≡◌, ◌↔◌, ℕ, ◌+◌, ◌≤◌, Result, Ok, Err, List, [], ◌∷◌, ◌++◌, length, length-append, append-nil, map, refl, sym, ap, ◌∙◌, subst, arith}
 use Rattle.std.specs.Prelude.{flat_map, IsOk, OnOk, OnErr}
 use Rattle.std.proofs.lemmas.Grind.{flat_map-append}
 use Rattle.std.proofs.lemmas.List.{map-append}
 use Rattle.std.specs.List.{AllByRecursion}
-use Rattle.narc_bits.specs.Octets.{IsOctets, big_endian}
+use Rattle.narc_bits.specs.Octets.{IsOctets}
+use Rattle.narc_packet.specs.declared.blocks.SackBlock.{SackBlock}
 use Rattle.narc_packet.specs.declared.limits.TheConstants.{MAX_AREA}
-use Rattle.narc_packet.specs.Options.{IpOptionView, IpNop, IpOther, TcpOptionView, TcpMss, TcpOther, ip_option, tcp_option, IsIpOption, IsTcpOption, ip_options_in, tcp_options_in, tcp_option_of, AreIpOptions, AreTcpOptions}
+use Rattle.narc_packet.specs.Options.{IpOptionView, IpNop, IpOther, TcpOptionView, ip_option, tcp_option, IsSackBlock, sack_block, sack_blocks_in, AreSpelledBlocks, IsIpOption, IsTcpOption, ip_options_in, tcp_options_in, tcp_option_of, AreIpOptions, AreTcpOptions}
 use Rattle.narc_packet.specs.WellFormed.{FitArea}
 use Rattle.narc_packet.proofs.OptionLists.{IsFound, each_found, ip_options_in-append, ip_options_in-cons, ip_options_in-other, AreIpOptions-few}
+use Rattle.narc_packet.proofs.TypedOptions.{HasOctets, sack_blocks_in-spelled, tcp_option-like, IsIpOption-like, ip_option_like-of, IsTcpOption-of}
 
 AllByRecursion-append : {X : Type 0} (P : X → Type 0) (xs ys : List X) → AllByRecursion P xs → AllByRecursion P ys → AllByRecursion P (xs ++ ys)
 AllByRecursion-append P [] ys h k = k
@@ -50,26 +52,9 @@ FitArea-last spelling IsOption options option each =
       λ h. ((AllByRecursion-last IsOption options option h.each).1, omega (arith, size, h.bound)),
     )
 
--- two octets
-pub big_endian-two : (high low : ℕ) → high < 256 → low < 256 → big_endian 2 (256 * high + low) ≡ high ∷ low ∷ []
-big_endian-two high low h l =
-    let front : (256 * high + low) / 256 ^ 1 % 256 ≡ high = omega arith in
-    let back : (256 * high + low) % 256 ≡ low = omega arith in
-    ap (λ n. n ∷ (256 * high + low) % 256 ∷ []) front ∙ ap (λ n. high ∷ n ∷ []) back
-
--- the maximum segment size, in the octets that spell it
-pub tcp_option_of-size : (n : ℕ) (l : List ℕ) → n < 2 ^ 16 → l ≡ n / 256 % 256 ∷ n % 256 ∷ [] → tcp_option_of (IpOther 2 l) ≡ TcpMss n
-tcp_option_of-size n l h e =
-    let whole : 256 * (n / 256 % 256) + n % 256 ≡ n = omega (arith, h) in
-    ap (λ t. tcp_option_of (IpOther 2 t)) e ∙ ap TcpMss whole
-
-pub IsIpOption-size : (n : ℕ) (l : List ℕ) → l ≡ n / 256 % 256 ∷ n % 256 ∷ [] → IsIpOption (IpOther 2 l)
-IsIpOption-size n l e = record {
-  least = omega arith;
-  kind_range = omega arith;
-  bound = omega (arith, ap length e);
-  each = subst IsOctets (sym e) (omega arith, (omega arith, tt));
-}
+-- an option without a spelling fits no area
+pub FitArea-none : {O : Type 0} (spelling : O → List ℕ) (IsOption : O → Type 0) (options : List O) (option : O) → (IsOption option → ⊥) → FitArea spelling IsOption (options ++ option ∷ []) → ⊥
+FitArea-none spelling IsOption options option none fit = none (AllByRecursion-last IsOption options option fit.each).1
 
 IsFound-ip : (option : IpOptionView) → IsIpOption option → IsFound option
 IsFound-ip IpNop h = tt
@@ -79,38 +64,16 @@ each_found-ip : (options : List IpOptionView) → AllByRecursion IsIpOption opti
 each_found-ip [] h = tt
 each_found-ip (option ∷ options) h = (IsFound-ip option h.0, each_found-ip options h.1)
 
+HasOctets-found : (option : IpOptionView) → IsFound option → HasOctets option
+HasOctets-found IpNop h = tt
+HasOctets-found (IpOther kind octets) h = h.2
+
 -- an option of TCP is spelled like one of IPv4
 tcp_option-found : (option : IpOptionView) → IsFound option → tcp_option (tcp_option_of option) ≡ ip_option option
-tcp_option-found IpNop h = refl
-tcp_option-found (IpOther zero octets) h = refl
-tcp_option-found (IpOther (suc zero) octets) h = refl
-tcp_option-found (IpOther (suc (suc zero)) []) h = refl
-tcp_option-found (IpOther (suc (suc zero)) (high ∷ [])) h = refl
-tcp_option-found (IpOther (suc (suc zero)) (high ∷ low ∷ [])) h = ap (λ t. 2 ∷ 4 ∷ t) (big_endian-two high low h.2.0 h.2.1.0)
-tcp_option-found (IpOther (suc (suc zero)) (high ∷ low ∷ next ∷ octets)) h = refl
-tcp_option-found (IpOther (suc (suc (suc kind))) octets) h = refl
+tcp_option-found option h = tcp_option-like (tcp_option_of option) ∙ ap ip_option (ip_option_like-of option (HasOctets-found option h))
 
 pub tcp_option-of : (option : IpOptionView) → IsIpOption option → tcp_option (tcp_option_of option) ≡ ip_option option
 tcp_option-of option h = tcp_option-found option (IsFound-ip option h)
-
-pub IsTcpOption-of : (option : IpOptionView) → IsIpOption option → IsTcpOption (tcp_option_of option)
-IsTcpOption-of IpNop h = tt
-IsTcpOption-of (IpOther zero octets) h = (h, λ e. absurd (omega (arith, e)))
-IsTcpOption-of (IpOther (suc zero) octets) h = (h, λ e. absurd (omega (arith, e)))
-IsTcpOption-of (IpOther (suc (suc zero)) []) h = (h, λ e f. omega (arith, f))
-IsTcpOption-of (IpOther (suc (suc zero)) (high ∷ [])) h = (h, λ e f. omega (arith, f))
-IsTcpOption-of (IpOther (suc (suc zero)) (high ∷ low ∷ [])) h = omega (arith, h.each.0, h.each.1.0)
-IsTcpOption-of (IpOther (suc (suc zero)) (high ∷ low ∷ next ∷ octets)) h = (h, λ e f. omega (arith, f))
-IsTcpOption-of (IpOther (suc (suc (suc kind))) octets) h = (h, λ e. absurd (omega (arith, e)))
-
-pub tcp_option_of-other : (kind : ℕ) (octets : List ℕ) → (kind ≡ 2 → length octets ≢ 2) → tcp_option_of (IpOther kind octets) ≡ TcpOther kind octets
-tcp_option_of-other zero octets h = refl
-tcp_option_of-other (suc zero) octets h = refl
-tcp_option_of-other (suc (suc zero)) [] h = refl
-tcp_option_of-other (suc (suc zero)) (high ∷ []) h = refl
-tcp_option_of-other (suc (suc zero)) (high ∷ low ∷ []) h = absurd (h refl refl)
-tcp_option_of-other (suc (suc zero)) (high ∷ low ∷ next ∷ octets) h = refl
-tcp_option_of-other (suc (suc (suc kind))) octets h = refl
 
 flat_map-found : (options : List IpOptionView) → AllByRecursion IsFound options → flat_map tcp_option (map tcp_option_of options) ≡ flat_map ip_option options
 flat_map-found [] h = refl
@@ -163,20 +126,26 @@ ip_options_in-pushed old new shown option (Ok done) are e can ok =
 ip_options_in-pushed old new shown option (Err f) are e can ok = ok
 
 -- an option of TCP is appended as the one of IPv4 that is spelled alike
-pub FitArea-alike : {E : Type 0} (options : List IpOptionView) (shown : List TcpOptionView) (option : IpOptionView) (alike : TcpOptionView) (r : Result Unit E)
-    → AllByRecursion IsIpOption options → map tcp_option_of options ≡ shown → tcp_option_of option ≡ alike → (IsTcpOption alike → IsIpOption option)
-    → (IsOk r ↔ FitArea ip_option IsIpOption (options ++ option ∷ [])) → IsOk r ↔ FitArea tcp_option IsTcpOption (shown ++ alike ∷ [])
-FitArea-alike options shown option alike r each shows e is fits =
-    let as_tcp = map-append tcp_option_of options (option ∷ []) ∙ ap (λ l. l ++ tcp_option_of option ∷ []) shows ∙ ap (λ o. shown ++ o ∷ []) e in
+pub FitArea-alike : {E : Type 0} (options : List IpOptionView) (shown : List TcpOptionView) (option : IpOptionView) (r : Result Unit E)
+    → AllByRecursion IsIpOption options → map tcp_option_of options ≡ shown → HasOctets option
+    → (IsOk r ↔ FitArea ip_option IsIpOption (options ++ option ∷ [])) → IsOk r ↔ FitArea tcp_option IsTcpOption (shown ++ tcp_option_of option ∷ [])
+FitArea-alike options shown option r each shows octets fits =
+    let alike = tcp_option_of option in
+    let like = ip_option_like-of option octets in
+    let as_tcp = map-append tcp_option_of options (option ∷ []) ∙ ap (λ l. l ++ alike ∷ []) shows in
     let ip = FitArea-last ip_option IsIpOption options option each in
     let tcp = FitArea-last tcp_option IsTcpOption shown alike (subst (AllByRecursion IsTcpOption) shows (AllByRecursion-tcp options each)) in
-    let sizes : length (flat_map ip_option options) ≡ length (flat_map tcp_option shown) = ap length (sym (flat_map-tcp_option options each)) ∙ ap (λ l. length (flat_map tcp_option l)) shows in (
+    let sizes : length (flat_map ip_option options) ≡ length (flat_map tcp_option shown) = ap length (sym (flat_map-tcp_option options each)) ∙ ap (λ l. length (flat_map tcp_option l)) shows in
+    let size : length (ip_option option) ≡ length (tcp_option alike) = ap (λ o. length (ip_option o)) (sym like) ∙ ap length (sym (tcp_option-like alike)) in (
       λ h. subst (FitArea tcp_option IsTcpOption) as_tcp (FitArea-tcp (options ++ option ∷ []) (fits.0 h)),
-      λ h. let both = tcp.1 h in
-          let one = is both.0 in
-          let size : length (ip_option option) ≡ length (tcp_option alike) = ap length (sym (tcp_option-of option one)) ∙ ap (λ o. length (tcp_option o)) e in
-          fits.1 (ip.0 (one, omega (arith, size, sizes, both.1))),
+      λ h.
+          let both = tcp.1 h in
+          fits.1 (ip.0 (subst IsIpOption like (IsIpOption-like alike both.0), omega (arith, size, sizes, both.1))),
     )
+
+-- an option has a spelling exactly where the one of TCP that is spelled alike has
+pub IsTcpOption-alike : (option : IpOptionView) → HasOctets option → IsTcpOption (tcp_option_of option) ↔ IsIpOption option
+IsTcpOption-alike option octets = (λ h. subst IsIpOption (ip_option_like-of option octets) (IsIpOption-like (tcp_option_of option) h), IsTcpOption-of option)
 
 -- few octets that spell options fit an area
 pub FitArea-ip : (l : List ℕ) → IsOctets l → length l ≤ 40
@@ -227,4 +196,18 @@ same_tcp_options a b a_octets b_octets =
           sym (found_again (ip_options_in a) a_found)
           ∙ ap ip_options_in (sym (flat_map-found (ip_options_in a) a_found) ∙ ap (flat_map tcp_option) e ∙ flat_map-found (ip_options_in b) b_found)
           ∙ found_again (ip_options_in b) b_found,
+    )
+
+-- a block behind others
+pub sack_blocks_in-last : (l : List ℕ) (block : SackBlock) → AreSpelledBlocks l → IsSackBlock block → sack_blocks_in (l ++ sack_block block) ≡ sack_blocks_in l ++ block ∷ []
+sack_blocks_in-last l block are is =
+    let blocks = sack_blocks_in l in
+    let spelled = ap (λ k. k ++ sack_block block) (sym are.0) ∙ sym (spelling-last sack_block blocks block) in
+    ap sack_blocks_in spelled ∙ sack_blocks_in-spelled (blocks ++ block ∷ []) (AllByRecursion-append IsSackBlock blocks (block ∷ []) are.1 (is, tt))
+
+pub AreSpelledBlocks-last : (l : List ℕ) (block : SackBlock) → AreSpelledBlocks l → IsSackBlock block → AreSpelledBlocks (l ++ sack_block block)
+AreSpelledBlocks-last l block are is =
+    let last = sack_blocks_in-last l block are is in (
+      ap (flat_map sack_block) last ∙ spelling-last sack_block (sack_blocks_in l) block ∙ ap (λ k. k ++ sack_block block) are.0,
+      subst (AllByRecursion IsSackBlock) (sym last) (AllByRecursion-append IsSackBlock (sack_blocks_in l) (block ∷ []) are.1 (is, tt)),
     )

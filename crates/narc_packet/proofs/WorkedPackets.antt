@@ -3,7 +3,7 @@ use Rattle.std.specs.Prelude.{◌≡◌, ℕ, ◌+◌, ◌≤◌, ◌<◌, ◌^�
 use Rattle.std.proofs.Common.{lit<, lit≤, inl, inr, arith}
 use Rattle.narc_bits.specs.Octets.{IsOctets}
 use Rattle.narc_bits.specs.InternetSum.{total, folded, IsGoodSum}
-use Rattle.narc_packet.specs.Options.{IpOptionView, IpNop, IpOther, TcpOptionView, TcpNop, TcpMss, TcpOther, IsIpArea}
+use Rattle.narc_packet.specs.Options.{IpOptionView, IpNop, IpOther, TcpOptionView, TcpNop, TcpMss, TcpScale, TcpSackOk, TcpTimes, IsIpArea}
 use Rattle.narc_packet.specs.PacketView.{PacketView, EthBodyView, ArpBody, Ipv4Body, OtherBody, Ipv4View, IpBodyView, UdpBody, TcpBody, RawBody, UdpView, TcpView}
 use Rattle.narc_packet.specs.Udp.{IsUdp}
 use Rattle.narc_packet.specs.Ipv4.{ipv4_header, is_fragment, MayHaveBody, IsIpBody}
@@ -43,7 +43,7 @@ abbrev request : List TcpOptionView → TcpView
 request options = record { sport = 1025; dport = 80; seq = 1; ack = 0; reserved = 0; flags = 2; window = 8192; urgent = 0; options = options; payload = [] }
 
 abbrev request_options : List TcpOptionView
-request_options = TcpMss 1460 ∷ TcpOther 4 [] ∷ TcpOther 8 (from_hex (codes "0000000100000000")) ∷ TcpNop ∷ TcpOther 3 (7 ∷ []) ∷ []
+request_options = TcpMss 1460 ∷ TcpSackOk ∷ TcpTimes 1 0 ∷ TcpNop ∷ TcpScale 7 ∷ []
 
 IsFrame-other : IsFrame other_packet other_frame
 IsFrame-other = record {

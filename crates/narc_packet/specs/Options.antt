@@ -1,8 +1,11 @@
 -- The options of IPv4 (RFC 791, section 3.1) and of TCP (RFC 793, section 3.1), and the areas that hold them.
-use Rattle.std.specs.Prelude.{◌≡◌, ℕ, zero, suc, ◌+◌, ◌-◌, ◌*◌, ◌%◌, ◌<◌, ◌≤◌, ◌≢◌, ◌^◌, Bool, true, false, ◌||◌, List, [], ◌∷◌, ◌++◌, length, map, take, flat_map, replicate, nat_lt, Option, Some, None, if◌then◌else◌}
+use Rattle.std.specs.Prelude.{◌≡◌, ℕ, zero, suc, ◌+◌, ◌-◌, ◌%◌, ◌<◌, ◌≤◌, ◌^◌, Bool, true, false, ◌&&◌, ◌||◌, List, [], ◌∷◌, ◌++◌, length, map, take, drop, flat_map, replicate, nat_eq, nat_lt, Option, Some, None, if◌then◌else◌}
 use Rattle.std.specs.List.{AllByRecursion}
-use Rattle.narc_packet.specs.declared.limits.TheConstants.{MAX_AREA}
-use Rattle.narc_bits.specs.Octets.{IsOctets, big_endian}
+use Rattle.narc_packet.specs.declared.limits.TheConstants.{MAX_AREA, MAX_BLOCKS}
+use Rattle.narc_packet.specs.declared.blocks.SackBlock.{SackBlock}
+use Rattle.narc_packet.specs.declared.option_type.TcpOptionType.{TcpOptionType}
+use Rattle.narc_packet.specs.declared.option_type.TcpOptionType.TheVariants.{SegmentSize, WindowScale, SackPermitted, Sack, Timestamps, Untyped}
+use Rattle.narc_bits.specs.Octets.{IsOctets, big_endian, number_of}
 
 -- an option of an IPv4 header, without where its data lies
 pub data IpOptionView : Type 0 where
@@ -13,6 +16,10 @@ pub data IpOptionView : Type 0 where
 pub data TcpOptionView : Type 0 where
   TcpNop : TcpOptionView
   TcpMss : (size : ℕ) → TcpOptionView
+  TcpScale : (shift : ℕ) → TcpOptionView
+  TcpSackOk : TcpOptionView
+  TcpSack : (blocks : List SackBlock) → TcpOptionView
+  TcpTimes : (value echo : ℕ) → TcpOptionView
   TcpOther : (kind : ℕ) → (data_octets : List ℕ) → TcpOptionView
 
 -- any other option: kind, the length of the whole, and the data
@@ -23,9 +30,18 @@ abbrev pub ip_option : IpOptionView → List ℕ
 ip_option IpNop = 1 ∷ []
 ip_option (IpOther kind octets) = other_option kind octets
 
+-- the two edges of a block (RFC 2018, section 3)
+abbrev pub sack_block : SackBlock → List ℕ
+sack_block block = big_endian 4 block.left ++ big_endian 4 block.right
+
+-- (RFC 793, section 3.1; RFC 7323, sections 2.2 and 3.2; RFC 2018, sections 2 and 3)
 abbrev pub tcp_option : TcpOptionView → List ℕ
 tcp_option TcpNop = 1 ∷ []
 tcp_option (TcpMss size) = 2 ∷ 4 ∷ big_endian 2 size
+tcp_option (TcpScale shift) = 3 ∷ 3 ∷ shift ∷ []
+tcp_option TcpSackOk = 4 ∷ 2 ∷ []
+tcp_option (TcpSack blocks) = other_option 5 (flat_map sack_block blocks)
+tcp_option (TcpTimes value echo) = 8 ∷ 10 ∷ big_endian 4 value ++ big_endian 4 echo
 tcp_option (TcpOther kind octets) = other_option kind octets
 
 -- an option that has a spelling
@@ -39,11 +55,33 @@ abbrev pub IsIpOption : IpOptionView → Type 0
 IsIpOption IpNop = Unit {0}
 IsIpOption (IpOther kind octets) = IsOtherOption kind octets
 
--- kind 2 with two octets is the maximum segment size
+-- two numbers of 32 bits
+abbrev pub IsSackBlock : SackBlock → Type 0
+IsSackBlock block = (block.left < 2 ^ 32) × (block.right < 2 ^ 32)
+
+-- one to four blocks
+abbrev pub AreSackBlocks : List SackBlock → Type 0
+AreSackBlocks blocks = (1 ≤ length blocks) × (length blocks ≤ MAX_BLOCKS) × AllByRecursion IsSackBlock blocks
+
+-- what an option is, by its kind and how many octets of data it has
+abbrev pub tcp_option_type : (kind count : ℕ) → TcpOptionType
+tcp_option_type kind count =
+    if nat_eq kind 2 && nat_eq count 2 then SegmentSize
+    else if nat_eq kind 3 && nat_eq count 1 then WindowScale
+    else if nat_eq kind 4 && nat_eq count 0 then SackPermitted
+    else if nat_eq kind 5 && (nat_eq count 8 || nat_eq count 16 || nat_eq count 24 || nat_eq count 32) then Sack
+    else if nat_eq kind 8 && nat_eq count 8 then Timestamps
+    else Untyped
+
+-- any other option has no kind and length of an option with a value of its own
 abbrev pub IsTcpOption : TcpOptionView → Type 0
 IsTcpOption TcpNop = Unit {0}
 IsTcpOption (TcpMss size) = size < 2 ^ 16
-IsTcpOption (TcpOther kind octets) = IsOtherOption kind octets × (kind ≡ 2 → length octets ≢ 2)
+IsTcpOption (TcpScale shift) = shift < 2 ^ 8
+IsTcpOption TcpSackOk = Unit {0}
+IsTcpOption (TcpSack blocks) = AreSackBlocks blocks
+IsTcpOption (TcpTimes value echo) = (value < 2 ^ 32) × (echo < 2 ^ 32)
+IsTcpOption (TcpOther kind octets) = IsOtherOption kind octets × (tcp_option_type kind (length octets) ≡ Untyped)
 
 -- nothing, or an end of the option list and any octets after it
 abbrev pub IsListEnd : List ℕ → Type 0
@@ -120,11 +158,28 @@ options_from zero (suc octet ∷ l) =
 abbrev pub ip_options_in : List ℕ → List IpOptionView
 ip_options_in spelled = options_from 0 spelled
 
--- kind 2 with two octets of data is the maximum segment size
+-- the whole blocks in octets, in order
+abbrev pub sack_blocks_in : List ℕ → List SackBlock
+sack_blocks_in (a ∷ b ∷ c ∷ d ∷ e ∷ f ∷ g ∷ h ∷ l) = record { left = number_of (a ∷ b ∷ c ∷ d ∷ []); right = number_of (e ∷ f ∷ g ∷ h ∷ []) } ∷ sack_blocks_in l
+sack_blocks_in l = []
+
+-- the octets are the spellings of the blocks in them, and nothing else
+abbrev pub AreSpelledBlocks : List ℕ → Type 0
+AreSpelledBlocks spelled = (flat_map sack_block (sack_blocks_in spelled) ≡ spelled) × AllByRecursion IsSackBlock (sack_blocks_in spelled)
+
+-- the option of this type with this kind and data
+abbrev pub typed_option : TcpOptionType → (kind : ℕ) → (data_octets : List ℕ) → TcpOptionView
+typed_option SegmentSize kind octets = TcpMss (number_of octets)
+typed_option WindowScale kind octets = TcpScale (number_of octets)
+typed_option SackPermitted kind octets = TcpSackOk
+typed_option Sack kind octets = TcpSack (sack_blocks_in octets)
+typed_option Timestamps kind octets = TcpTimes (number_of (take 4 octets)) (number_of (drop 4 octets))
+typed_option Untyped kind octets = TcpOther kind octets
+
+-- the option of TCP that is spelled like this one of IPv4
 abbrev pub tcp_option_of : IpOptionView → TcpOptionView
 tcp_option_of IpNop = TcpNop
-tcp_option_of (IpOther (suc (suc zero)) (high ∷ low ∷ [])) = TcpMss (256 * high + low)
-tcp_option_of (IpOther kind octets) = TcpOther kind octets
+tcp_option_of (IpOther kind octets) = typed_option (tcp_option_type kind (length octets)) kind octets
 
 abbrev pub tcp_options_in : List ℕ → List TcpOptionView
 tcp_options_in spelled = map tcp_option_of (options_from 0 spelled)

@@ -2,7 +2,7 @@
 -- Two packets are the same exactly where their views are equal.
 use Rattle.std.specs.Prelude.{ℕ, Bool, List}
 use Rattle.narc_packet.specs.declared.packet.Arp.{Arp}
-use Rattle.narc_packet.specs.Options.{IpOptionView, IpNop, IpOther, TcpOptionView, TcpNop, TcpMss, TcpOther, ip_options_in, tcp_options_in}
+use Rattle.narc_packet.specs.Options.{IpOptionView, IpNop, IpOther, TcpOptionView, TcpNop, TcpMss, TcpScale, TcpSackOk, TcpSack, TcpTimes, TcpOther, ip_options_in, tcp_options_in, sack_blocks_in}
 use Rattle.narc_packet.specs.declared.options.IpOption.{IpOption}
 use Rattle.narc_packet.specs.declared.options.IpOption.TheVariants as in_ip
 use Rattle.narc_packet.specs.declared.options.TcpOption.{TcpOption}
@@ -67,6 +67,10 @@ ip_option_view (in_ip.Other kind octets) = IpOther kind octets.now
 abbrev pub tcp_option_view : TcpOption → TcpOptionView
 tcp_option_view in_tcp.Nop = TcpNop
 tcp_option_view (in_tcp.Mss size) = TcpMss size
+tcp_option_view (in_tcp.Scale shift) = TcpScale shift
+tcp_option_view in_tcp.SackOk = TcpSackOk
+tcp_option_view (in_tcp.Sack blocks) = TcpSack (sack_blocks_in blocks.spelled.now)
+tcp_option_view (in_tcp.Times value echo) = TcpTimes value echo
 tcp_option_view (in_tcp.Other kind octets) = TcpOther kind octets.now
 
 abbrev pub udp_view : Udp → UdpView

@@ -3,7 +3,8 @@ use Rattle.std.specs.Prelude.{ℕ, ◌/◌, Bool, List, [], ◌∷◌, ◌++◌,
 use Rattle.std.specs.List.{join_with_byte}
 use Rattle.hex.specs.Hex.{encode_lower}
 use Rattle.narc_bits.specs.Bits.{is_odd}
-use Rattle.narc_packet.specs.Options.{IpOptionView, IpNop, IpOther, TcpOptionView, TcpNop, TcpMss, TcpOther}
+use Rattle.narc_packet.specs.Options.{IpOptionView, IpNop, IpOther, TcpOptionView, TcpNop, TcpMss, TcpScale, TcpSackOk, TcpSack, TcpTimes, TcpOther}
+use Rattle.narc_packet.specs.declared.blocks.SackBlock.{SackBlock}
 
 -- two digits for each octet, and `-` for no octets
 abbrev pub hex_word : List ℕ → List ℕ
@@ -31,10 +32,21 @@ fragment_marks df mf = marks (codes "DM") (df ∷ mf ∷ [])
 abbrev pub flags_word : (flags : ℕ) → List ℕ
 flags_word flags = marks (codes "UAPRSF") (map (λ weight. is_odd (flags / weight)) (32 ∷ 16 ∷ 8 ∷ 4 ∷ 2 ∷ 1 ∷ []))
 
--- an option of TCP, and one of IPv4, which is no maximum segment size
+-- the edges of a block
+abbrev pub block_word : SackBlock → List ℕ
+block_word block = decimal block.left ++ codes "-" ++ decimal block.right
+
+abbrev pub blocks_word : List SackBlock → List ℕ
+blocks_word blocks = join_with_byte 47 (map block_word blocks)
+
+-- an option of TCP, and one of IPv4, which has no value of its own
 abbrev pub tcp_option_word : TcpOptionView → List ℕ
 tcp_option_word TcpNop = codes "nop"
 tcp_option_word (TcpMss size) = codes "mss:" ++ decimal size
+tcp_option_word (TcpScale shift) = codes "scale:" ++ decimal shift
+tcp_option_word TcpSackOk = codes "sackok"
+tcp_option_word (TcpSack blocks) = codes "sack:" ++ blocks_word blocks
+tcp_option_word (TcpTimes value echo) = codes "ts:" ++ decimal value ++ codes ":" ++ decimal echo
 tcp_option_word (TcpOther kind octets) = codes "opt:" ++ decimal kind ++ codes ":" ++ hex_word octets
 
 abbrev pub ip_option_word : IpOptionView → List ℕ

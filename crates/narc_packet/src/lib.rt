@@ -1,15 +1,19 @@
 //! Packets, and what octets are a frame of one.
 #![tactic(auto)]
 
+mod blocks;
 mod limits;
 mod option_list;
+mod option_type;
 mod options;
 mod packet;
 mod ranges;
 mod well_formed;
 
-pub use limits::{MAX_AREA, MAX_LENGTH};
+pub use blocks::{SackBlock, SackBlockIter, SackBlockList, SackBlocks};
+pub use limits::{MAX_AREA, MAX_BLOCKS, MAX_LENGTH};
 pub use option_list::{IpOptionList, OptionError, TcpOptionList};
+pub use option_type::TcpOptionType;
 pub use options::{IpOption, IpOptionIter, IpOptions, TcpOption, TcpOptionIter, TcpOptions};
 pub use packet::{Arp, EthBody, IpBody, Ipv4, Packet, Tcp, Udp};
 pub use well_formed::is_well_formed;

@@ -1,10 +1,12 @@
 //! Lists of options, by which packets are built.
 ghost use Rattle.std.specs.Prelude.{◌≡◌, ◌↔◌, ◌+◌, ◌<◌, ◌≤◌, ◌++◌, ◌∷◌, [], length, flat_map, IsOk, OnOk, OnErr, Err};
-ghost use Rattle.narc_packet.specs.Options.{ip_option, tcp_option, IsIpOption, IsTcpOption, AreIpOptions, AreTcpOptions, ip_options_in, tcp_options_in};
+ghost use Rattle.narc_packet.specs.Options.{ip_option, tcp_option, IsIpOption, IsTcpOption, AreIpOptions, AreTcpOptions, ip_options_in, tcp_options_in, tcp_option_of};
 ghost use Rattle.narc_packet.specs.WellFormed.{FitArea};
 ghost use Rattle.narc_packet.specs.PacketView.{ip_option_view, tcp_option_view};
 
+use crate::blocks::two_numbers;
 use crate::limits::MAX_AREA;
+use crate::option_type::TcpOptionType;
 use crate::options::{IpOption, IpOptions, TcpOption, TcpOptions};
 use arrayvec::ArrayVec;
 use narc_bits::known_octets;
@@ -14,7 +16,7 @@ use thiserror::Error;
 /// Why an option does not get into a list.
 #[derive(Clone, Copy, Debug, Drop, PartialEq, Eq, Error)]
 pub enum OptionError {
-    /// Its kind is below 2, its data has more than 38 octets, or it is another option by name.
+    /// Its kind is below 2, its data has more than 38 octets, it has a value of its own, or not one to four blocks.
     #[error("an option has no such kind and data")]
     NoSpelling,
     /// The options would have more than 40 octets.
@@ -138,18 +140,44 @@ impl TcpOptionList {
         ensures err { OnErr result (self.new ≡ self.old) }
     {
         match option {
-            TcpOption::Nop => self.alike.push(IpOption::Nop),
-            TcpOption::Mss(size) => self.alike.push(IpOption::Other {
+            TcpOption::Nop => self.push_alike(IpOption::Nop),
+            TcpOption::Mss(size) => self.push_alike(IpOption::Other {
                 kind: 2,
                 data: &size.to_be_bytes(),
             }),
+            TcpOption::Scale(shift) => self.push_alike(IpOption::Other {
+                kind: 3,
+                data: &[shift],
+            }),
+            TcpOption::SackOk => self.push_alike(IpOption::Other { kind: 4, data: &[] }),
+            TcpOption::Sack(blocks) => {
+                let data = blocks.option_data().ok_or(OptionError::NoSpelling)?;
+                self.push_alike(IpOption::Other { kind: 5, data })
+            }
+            TcpOption::Times { value, echo } => self.push_alike(IpOption::Other {
+                kind: 8,
+                data: &two_numbers(value, echo),
+            }),
             TcpOption::Other { kind, data } => {
-                if kind == 2 && data.len() == 2 {
+                if TcpOptionType::of(kind, data.len()) != TcpOptionType::Untyped {
                     return Err(OptionError::NoSpelling);
                 }
-                self.alike.push(IpOption::Other { kind, data })
+                self.push_alike(IpOption::Other { kind, data })
             }
         }
+    }
+
+    /// Appends the option of TCP that is spelled like this one of IPv4.
+    fn push_alike(&mut self, option: IpOption<'_>) -> Result<(), OptionError>
+        ensures fits { IsOk result ↔ FitArea tcp_option IsTcpOption (self.old ++ tcp_option_of (ip_option_view option.entry) ∷ []) }
+        ensures ok { OnOk result (self.new ≡ self.old ++ tcp_option_of (ip_option_view option.entry) ∷ []) }
+        ensures unspelled { (result ≡ Err OptionError.NoSpelling) ↔ (IsTcpOption (tcp_option_of (ip_option_view option.entry)) → ⊥) }
+        ensures err { OnErr result (self.new ≡ self.old) }
+    {
+        if let IpOption::Other { data, .. } = option {
+            known_octets(data);
+        }
+        self.alike.push(option)
     }
 
     /// The options, as a packet has them.

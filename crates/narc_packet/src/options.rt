@@ -3,7 +3,9 @@ ghost use Rattle.std.specs.Prelude.{◌≡◌, ◌↔◌, ◌<◌, ◌≤◌, �
 ghost use Rattle.narc_packet.specs.Options.{ip_option, ip_options_in, tcp_options_in, tcp_option_of};
 ghost use Rattle.narc_packet.specs.PacketView.{ip_option_view, tcp_option_view};
 
+use crate::blocks::SackBlocks;
 use crate::limits::MAX_AREA;
+use crate::option_type::TcpOptionType;
 use arrayvec::ArrayVec;
 use narc_bits::known_octets;
 use std::marker::Model;
@@ -17,14 +19,23 @@ pub enum IpOption<'a> {
     Other { kind: u8, data: &'a [u8] },
 }
 
-/// An option of a TCP header (RFC 793, section 3.1): no operation, the maximum segment size, or any other with its data.
+/// An option of a TCP header (RFC 793, section 3.1): no operation, one of those that have a value of their own, or any
+/// other with its data.
 #[derive(Clone, Copy, Debug, Default, Drop, PartialEq, Eq)]
 pub enum TcpOption<'a> {
     #[default]
     Nop,
-    /// Kind 2 with two octets of data.
+    /// The maximum segment size: kind 2 with two octets of data.
     Mss(u16),
-    /// A kind from 2 on, and 0 to 38 octets of data, which are not two where the kind is 2.
+    /// By how many bits the window is shifted (RFC 7323, section 2.2): kind 3 with one octet.
+    Scale(u8),
+    /// Selective acknowledgment is permitted (RFC 2018, section 2): kind 4 without data.
+    SackOk,
+    /// Selective acknowledgment (RFC 2018, section 3): kind 5 with one to four blocks.
+    Sack(SackBlocks<'a>),
+    /// The sender's clock, and the clock that is echoed (RFC 7323, section 3.2): kind 8 with two numbers of four octets.
+    Times { value: u32, echo: u32 },
+    /// A kind from 2 on, and 0 to 38 octets of data, which together are none of the above.
     Other { kind: u8, data: &'a [u8] },
 }
 
@@ -33,13 +44,21 @@ impl<'a> TcpOption<'a> {
     fn spelled_like(option: IpOption<'a>) -> TcpOption<'a>
         ensures { tcp_option_view result ≡ tcp_option_of (ip_option_view option.entry) }
     {
-        match option {
-            IpOption::Nop => TcpOption::Nop,
-            IpOption::Other {
-                kind: 2,
-                data: [high, low],
-            } => TcpOption::Mss(u16::from_be_bytes([*high, *low])),
-            IpOption::Other { kind, data } => TcpOption::Other { kind, data },
+        let IpOption::Other { kind, data } = option else {
+            return TcpOption::Nop;
+        };
+        match (TcpOptionType::of(kind, data.len()), data) {
+            (TcpOptionType::SegmentSize, [high, low]) => {
+                TcpOption::Mss(u16::from_be_bytes([*high, *low]))
+            }
+            (TcpOptionType::WindowScale, [shift]) => TcpOption::Scale(*shift),
+            (TcpOptionType::SackPermitted, _) => TcpOption::SackOk,
+            (TcpOptionType::Sack, spelled) => TcpOption::Sack(SackBlocks { spelled }),
+            (TcpOptionType::Timestamps, [a, b, c, d, e, f, g, h]) => TcpOption::Times {
+                value: u32::from_be_bytes([*a, *b, *c, *d]),
+                echo: u32::from_be_bytes([*e, *f, *g, *h]),
+            },
+            _ => TcpOption::Other { kind, data },
         }
     }
 }

@@ -1,7 +1,7 @@
 //! Options one by one, and packets at the edge of what has a frame.
 use super::{
-    EthBody, IpBody, IpOption, IpOptionList, IpOptions, Ipv4, OptionError, Packet, TcpOption,
-    TcpOptionList, TcpOptions, is_well_formed,
+    EthBody, IpBody, IpOption, IpOptionList, IpOptions, Ipv4, OptionError, Packet, SackBlock,
+    SackBlockList, TcpOption, TcpOptionList, TcpOptions, is_well_formed,
 };
 use std::test::Fail;
 
@@ -53,6 +53,55 @@ fn options_of_tcp_are_listed_in_order(rt: HostRuntime) {
 }
 
 #[test]
+fn options_of_tcp_have_values_of_their_own(rt: HostRuntime) {
+    let mut options = TcpOptions {
+        spelled: &[
+            3, 3, 7, 4, 2, 8, 10, 0, 0, 0, 1, 0, 0, 1, 0, 5, 3, 9, 4, 3, 9,
+        ],
+    }
+    .iter();
+    assert!(rt; options.next() == Some(TcpOption::Scale(7)));
+    assert!(rt; options.next() == Some(TcpOption::SackOk));
+    let times = TcpOption::Times {
+        value: 1,
+        echo: 256,
+    };
+    assert!(rt; options.next() == Some(times));
+    let Some(TcpOption::Other { kind, data }) = options.next() else {
+        panic!(rt; "one octet of data is no block");
+    };
+    assert!(rt; kind == 5 && data == [9].as_slice());
+    let Some(TcpOption::Other { kind, data }) = options.next() else {
+        panic!(rt; "leave to acknowledge selectively has no data");
+    };
+    assert!(rt; kind == 4 && data == [9].as_slice());
+    assert!(rt; options.next().is_none());
+}
+
+#[test]
+fn blocks_are_listed_in_order(rt: HostRuntime) {
+    let mut list = TcpOptionList::new();
+    let first = SackBlock { left: 1, right: 5 };
+    let second = SackBlock {
+        left: 4_294_967_295,
+        right: 256,
+    };
+    let mut blocks = SackBlockList::new();
+    assert!(rt; list.push(TcpOption::Sack(blocks.as_blocks())) == Err(OptionError::NoSpelling));
+    blocks.push(first);
+    blocks.push(second);
+    assert!(rt; list.push(TcpOption::Sack(blocks.as_blocks())) == Ok(()));
+    assert_eq!(rt; list.as_options().spelled.len(), 18);
+    let Some(TcpOption::Sack(blocks)) = list.as_options().iter().next() else {
+        panic!(rt; "two blocks are selective acknowledgment");
+    };
+    let mut blocks = blocks.iter();
+    assert!(rt; blocks.next() == Some(first));
+    assert!(rt; blocks.next() == Some(second));
+    assert!(rt; blocks.next().is_none());
+}
+
+#[test]
 fn a_list_takes_forty_octets_of_options(rt: HostRuntime) {
     let mut list = IpOptionList::new();
     assert!(rt; list.push(IpOption::Other { kind: 1, data: &[] }) == Err(OptionError::NoSpelling));
@@ -76,12 +125,19 @@ fn a_list_takes_forty_octets_of_options(rt: HostRuntime) {
 }
 
 #[test]
-fn a_size_is_no_other_option(rt: HostRuntime) {
+fn an_option_with_a_value_of_its_own_is_no_other_option(rt: HostRuntime) {
     let mut list = TcpOptionList::new();
     assert!(rt;
         list.push(TcpOption::Other {
             kind: 2,
             data: &[5, 180]
+        }) == Err(OptionError::NoSpelling)
+    );
+    let times = [0; 8];
+    assert!(rt;
+        list.push(TcpOption::Other {
+            kind: 8,
+            data: &times
         }) == Err(OptionError::NoSpelling)
     );
     assert!(rt; list.push(TcpOption::Mss(1460)) == Ok(()));

@@ -12,7 +12,8 @@ use Rattle.narc_sum.specs.Checked.{never_zero}
 use Rattle.narc_sum.specs.Seals.{complement_good, complement_full_good}
 use Rattle.narc_packet.specs.declared.packet.Arp.{Arp}
 use Rattle.narc_packet.specs.Ranges.{IsIp, IsArpInRange, IsUdpInRange, IsTcpInRange}
-use Rattle.narc_packet.specs.Options.{IpOptionView, IpNop, IpOther, TcpOptionView, TcpNop, TcpMss, TcpOther, IsOtherOption, ip_option, tcp_option, IsIpOption, IsTcpOption, IsListEnd, IsArea, filled, ip_area, tcp_area}
+use Rattle.narc_packet.proofs.TypedOptions.{IsOctets-spellings, IsOctets-ip_option, IsOctets-tcp_option}
+use Rattle.narc_packet.specs.Options.{IpOptionView, TcpOptionView, ip_option, tcp_option, IsIpOption, IsTcpOption, IsListEnd, IsArea, filled, ip_area, tcp_area}
 use Rattle.narc_packet.specs.PacketView.{UdpView, TcpView, IpBodyView, UdpBody, TcpBody, RawBody, Ipv4View, EthBodyView, ArpBody, Ipv4Body, OtherBody, PacketView}
 use Rattle.narc_packet.specs.Udp.{udp_length, udp_octets, udp_pseudo_header, IsUdp, udp_checksum, canonical_udp}
 use Rattle.narc_packet.specs.Tcp.{tcp_octets, tcp_pseudo_header, IsTcp, canonical_tcp}
@@ -75,19 +76,11 @@ module _ {O : Type 0} (spelling : O → List ℕ) (IsOption : O → Type 0) (opt
         bound = omega (arith, size, length-replicate {A = ℕ} k 0, bound);
       }
 
-other_each : (kind : ℕ) (octets : List ℕ) → IsOtherOption kind octets → IsOctets (kind ∷ (2 + length octets) ∷ octets)
-other_each kind octets h = (h.kind_range, (omega (arith, h.bound), h.each))
-
 ip_each : (os : List IpOptionView) → AllByRecursion IsIpOption os → IsOctets (flat_map ip_option os)
-ip_each [] h = tt
-ip_each (IpNop ∷ os) h = (lit< tt, ip_each os h.1)
-ip_each (IpOther kind octets ∷ os) h = IsOctets-append (ip_option (IpOther kind octets)) (flat_map ip_option os) (other_each kind octets h.0) (ip_each os h.1)
+ip_each os h = IsOctets-spellings ip_option IsIpOption IsOctets-ip_option os h
 
 tcp_each : (os : List TcpOptionView) → AllByRecursion IsTcpOption os → IsOctets (flat_map tcp_option os)
-tcp_each [] h = tt
-tcp_each (TcpNop ∷ os) h = (lit< tt, tcp_each os h.1)
-tcp_each (TcpMss size ∷ os) h = (lit< tt, (lit< tt, IsOctets-append (big_endian 2 size) (flat_map tcp_option os) (IsOctets-big_endian 2 size) (tcp_each os h.1)))
-tcp_each (TcpOther kind octets ∷ os) h = IsOctets-append (tcp_option (TcpOther kind octets)) (flat_map tcp_option os) (other_each kind octets h.0.0) (tcp_each os h.1)
+tcp_each os h = IsOctets-spellings tcp_option IsTcpOption IsOctets-tcp_option os h
 
 -- the pseudo header has an even number of octets, and is not 0
 pseudo_even : (src dst l : List ℕ) → IsIp src → IsIp dst → length l % 2 ≡ 0 → length (src ++ dst ++ l) % 2 ≡ 0

@@ -3,8 +3,7 @@ use Rattle.std.proofs.Common.{◌≡◌, ℕ, List, [], ◌∷◌, map, refl, ap
 use Rattle.std.specs.Prelude.{flat_map}
 use Rattle.std.specs.List.{AllByRecursion}
 use Rattle.std.specs.Borrow.{Bor}
-use Rattle.narc_bits.specs.Octets.{big_endian}
-use Rattle.narc_packet.specs.Options.{IpOptionView, IpNop, IpOther, TcpOptionView, TcpNop, TcpMss, TcpOther, ip_option, IsIpOption, IsTcpOption, tcp_options_in, tcp_option_of, AreTcpOptions}
+use Rattle.narc_packet.specs.Options.{IpOptionView, TcpOptionView, ip_option, IsIpOption, IsTcpOption, tcp_options_in, tcp_option_of, AreTcpOptions}
 use Rattle.narc_packet.specs.PacketView.{TcpView, IpBodyView, UdpBody, TcpBody, RawBody, Ipv4View, EthBodyView, ArpBody, Ipv4Body, OtherBody, PacketView, ip_body_view, eth_body_view, view}
 use Rattle.narc_packet.specs.Ipv4.{IsIpBody}
 use Rattle.narc_packet.specs.Frame.{IsFrame, IsEthBody}
@@ -16,47 +15,32 @@ use Rattle.narc_packet.specs.declared.packet.Ipv4.{Ipv4}
 use Rattle.narc_packet.specs.declared.packet.EthBody.{EthBody}
 use Rattle.narc_packet.specs.declared.packet.EthBody.TheVariants as eth_body
 use Rattle.narc_packet.specs.declared.packet.Packet.{Packet}
-use Rattle.narc_packet.proofs.SpelledOptions.{tcp_option_of-size, tcp_option_of-other, IsIpOption-size, AreTcpOptions-ip}
+use Rattle.narc_packet.proofs.SpelledOptions.{AreTcpOptions-ip}
+use Rattle.narc_packet.proofs.TypedOptions.{ip_option_like, tcp_option_of-like, IsIpOption-like}
 use Rattle.narc_options.proofs.Spellings.{options_again, are_options}
 
 -- octets that lie anywhere
 slice : List ℕ → Bor (List ℕ)
 slice l = record { ref_ptr = (0, 0); now = l }
 
--- the option of IPv4 that is spelled like this one of TCP
-abbrev spelled_like : TcpOptionView → IpOptionView
-spelled_like TcpNop = IpNop
-spelled_like (TcpMss size) = IpOther 2 (big_endian 2 size)
-spelled_like (TcpOther kind octets) = IpOther kind octets
-
-like_back : (o : TcpOptionView) → IsTcpOption o → tcp_option_of (spelled_like o) ≡ o
-like_back TcpNop h = refl
-like_back (TcpMss size) h = tcp_option_of-size size (big_endian 2 size) h refl
-like_back (TcpOther kind octets) h = tcp_option_of-other kind octets h.1
-
-like_is : (o : TcpOptionView) → IsTcpOption o → IsIpOption (spelled_like o)
-like_is TcpNop h = tt
-like_is (TcpMss size) h = IsIpOption-size size (big_endian 2 size) refl
-like_is (TcpOther kind octets) h = h.0
-
-all_like : (l : List TcpOptionView) → AllByRecursion IsTcpOption l → AllByRecursion IsIpOption (map spelled_like l) × (map tcp_option_of (map spelled_like l) ≡ l)
+all_like : (l : List TcpOptionView) → AllByRecursion IsTcpOption l → AllByRecursion IsIpOption (map ip_option_like l) × (map tcp_option_of (map ip_option_like l) ≡ l)
 all_like [] h = (tt, refl)
 all_like (o ∷ l) h =
     let rest = all_like l h.1 in
-    ((like_is o h.0, rest.0), ap (λ p. p ∷ map tcp_option_of (map spelled_like l)) (like_back o h.0) ∙ ap (λ k. o ∷ k) rest.1)
+    ((IsIpOption-like o h.0, rest.0), ap (λ p. p ∷ map tcp_option_of (map ip_option_like l)) (tcp_option_of-like o h.0) ∙ ap (λ k. o ∷ k) rest.1)
 
 -- octets that spell these options, and nothing else
 abbrev ip_spelled : List IpOptionView → List ℕ
 ip_spelled l = flat_map ip_option l
 
 abbrev tcp_spelled : List TcpOptionView → List ℕ
-tcp_spelled l = ip_spelled (map spelled_like l)
+tcp_spelled l = ip_spelled (map ip_option_like l)
 
 tcp_again : (l : List TcpOptionView) → AllByRecursion IsTcpOption l → tcp_options_in (tcp_spelled l) ≡ l
-tcp_again l h = let like = all_like l h in ap (map tcp_option_of) (options_again (map spelled_like l) like.0) ∙ like.1
+tcp_again l h = let like = all_like l h in ap (map tcp_option_of) (options_again (map ip_option_like l) like.0) ∙ like.1
 
 tcp_are : (l : List TcpOptionView) → AllByRecursion IsTcpOption l → AreTcpOptions (tcp_spelled l)
-tcp_are l h = AreTcpOptions-ip (tcp_spelled l) (are_options (map spelled_like l) (all_like l h).0)
+tcp_are l h = AreTcpOptions-ip (tcp_spelled l) (are_options (map ip_option_like l) (all_like l h).0)
 
 record IpBodySeen (v : IpBodyView) : Type 0 where
   pub body : IpBody

@@ -1,5 +1,5 @@
 -- Which segments can be written, and what is written of them.
-use Rattle.std.proofs.Common.{◌≡◌, ℕ, zero, suc, ◌+◌, ◌*◌, ◌-◌, ◌/◌, ◌%◌, ◌^◌, ◌<◌, ◌≤◌, ◌↔◌, min, List, [], ◌∷◌, ◌++◌, length, replicate, refl, sym, ap, ◌∙◌, subst, length-append, arith}
+use Rattle.std.proofs.Common.{◌≡◌, ℕ, zero, suc, ◌+◌, ◌*◌, ◌-◌, ◌/◌, ◌%◌, ◌^◌, ◌<◌, ◌≤◌, ◌↔◌, min, List, ◌++◌, length, replicate, refl, sym, ap, ◌∙◌, subst, length-append, arith}
 use Rattle.std.specs.Prelude.{flat_map}
 use Rattle.std.proofs.Math.ListN.{length-replicate}
 use Rattle.std.specs.Borrow.{Bor}
@@ -27,8 +27,9 @@ use Rattle.narc_options.specs.Option.{option_fields, option_region}
 use Rattle.narc_options.proofs.AreaRead.{items_are_options, options_are_items}
 use Rattle.narc_packet.proofs.OptionLists.{AreIpOptions-few}
 use Rattle.narc_packet.proofs.SpelledOptions.{AreTcpOptions-ip, FitArea-tcp_options}
+use Rattle.narc_packet.proofs.TypedOptions.{IsOctets-spellings, IsOctets-tcp_option}
 use Rattle.narc_packet.specs.PacketView.{tcp_view}
-use Rattle.narc_packet.specs.Options.{TcpOptionView, TcpNop, TcpMss, TcpOther, tcp_option, tcp_options_in, tcp_area, IsTcpOption, AreIpOptions, AreTcpOptions}
+use Rattle.narc_packet.specs.Options.{TcpOptionView, tcp_option, tcp_options_in, tcp_area, IsTcpOption, AreIpOptions, AreTcpOptions}
 use Rattle.narc_transport.specs.declared.as_tcp.TcpWithOffset.{TcpWithOffset}
 use Rattle.narc_transport.specs.declared.context.Ends.{Ends}
 use Rattle.narc_transport.specs.Context.{IsThere}
@@ -38,14 +39,8 @@ use Rattle.narc_transport.proofs.TcpChosen.{AreFields, summed_fields, summed_adm
 use Rattle.narc_transport.proofs.TcpOctets.{pseudo_even, tcp_again, read_back}
 
 -- the octets of options
-option_each : (o : TcpOptionView) → IsTcpOption o → IsOctets (tcp_option o)
-option_each TcpNop h = (omega arith, tt)
-option_each (TcpMss size) h = (omega arith, (omega arith, IsOctets-big_endian 2 size))
-option_each (TcpOther kind octets) h = (h.0.kind_range, (omega (arith, h.0.bound), h.0.each))
-
 spelled_each : (os : List TcpOptionView) → AllByRecursion IsTcpOption os → IsOctets (flat_map tcp_option os)
-spelled_each [] h = tt
-spelled_each (o ∷ os) h = IsOctets-append (tcp_option o) (flat_map tcp_option os) (option_each o h.0) (spelled_each os h.1)
+spelled_each os h = IsOctets-spellings tcp_option IsTcpOption IsOctets-tcp_option os h
 
 pub spelled_alike : (l : List ℕ) → length l ≤ 40 → AreTcpOptions l → AreIpOptions l
 spelled_alike l few are =

@@ -26,7 +26,9 @@ pub use laws::{
     tcp_option_format_is_sound, udp_format_admits_what_fits, udp_format_is_its_octets,
     udp_format_is_refused_by_row, udp_format_is_sound, udp_format_is_written_with_its_checksum,
 };
-pub use option::{AsTcpOption, ByLength, ByTcpKind, LengthOf, TcpOptionFormat};
+pub use option::{
+    AsTcpOption, ByPermitted, ByScale, BySize, ByTcpKind, ByTimes, LengthOf, TcpOptionFormat,
+};
 pub use parts::{TcpPart, UdpPart};
 pub use tcp::{AreaBehind, TcpFormat, TcpPseudo};
 pub use tcp_front::{IsOffset, TcpFront};

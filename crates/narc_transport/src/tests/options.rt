@@ -2,14 +2,17 @@
 ghost use Rattle.std.specs.Prelude.{◌≡◌, ◌*◌, ◌≤◌, length};
 ghost use Rattle.narc_packet.specs.Options.{IsTcpOption, tcp_option};
 ghost use Rattle.narc_packet.specs.PacketView.{tcp_option_view};
+ghost use Rattle.narc_transport.specs.Option.{HasWholeBlocks};
 
-use crate::{AsTcpOption, ByLength, ByTcpKind, LengthOf, TcpOptionFormat};
+use crate::{
+    AsTcpOption, ByPermitted, ByScale, BySize, ByTcpKind, ByTimes, LengthOf, TcpOptionFormat,
+};
 use narc_bits::{Cursor, Input, MAX_FRAME, Steps, Writer};
-use narc_compose::{Measured, Seq, Strip, Union};
+use narc_compose::{Measured, Seq, Strip, Then, Union};
 use narc_format::{Fault, Format};
 use narc_list::{Bytes, Pad, Region};
 use narc_options::{AnyOctets, ContextOctets, IsKind, IsOptionLength, KindOf};
-use narc_packet::TcpOption;
+use narc_packet::{SackBlock, SackBlocks, TcpOption};
 use narc_samples::are_one;
 use narc_scalar::{Where, Word};
 use std::marker::{Brand, PhantomData};
@@ -17,7 +20,15 @@ use std::sync::ledger::{Blank, Ledger};
 
 type Data = Region<Measured<Bytes, AnyOctets>, ContextOctets>;
 
-type Behind = Seq<Where<Word<8>, IsOptionLength>, Union<ByLength, Word<16>, Data>, LengthOf>;
+type TimesOrData = Union<ByTimes, Then<Word<32>, Word<32>>, Data>;
+
+type TypedData = Union<
+    ByPermitted,
+    Region<Pad, ContextOctets>,
+    Union<BySize, Word<16>, Union<ByScale, Word<8>, TimesOrData>>,
+>;
+
+type Behind = Seq<Where<Word<8>, IsOptionLength>, TypedData, LengthOf>;
 
 #[test]
 fn an_option_is_these_fields_in_order(_rt: HostRuntime) {
@@ -80,6 +91,7 @@ fn read_option(octets: &[u8]) -> Result<TcpOption<'_>, Fault>
 /// Writes an option, alone.
 fn write_option(option: &TcpOption<'_>, room: &mut [u8])
     requires is { IsTcpOption (tcp_option_view option.now) }
+    requires whole { HasWholeBlocks option.now }
     requires enough { length (tcp_option (tcp_option_view option.now)) ≤ length room.old }
     requires small { length room.old ≤ MAX_FRAME }
 {
@@ -103,6 +115,29 @@ fn an_option_of_kind_2_is_a_segment_size_where_its_length_is_4(rt: HostRuntime) 
 }
 
 #[test]
+fn an_option_has_a_value_of_its_own_by_kind_and_length(rt: HostRuntime) {
+    assert!(rt; read_option(&[3, 3, 7, 9]) == Ok(TcpOption::Scale(7)));
+    assert!(rt; read_option(&[4, 2, 9]) == Ok(TcpOption::SackOk));
+    let times = TcpOption::Times {
+        value: 0x0102_0304,
+        echo: 5,
+    };
+    assert!(rt; read_option(&[8, 10, 1, 2, 3, 4, 0, 0, 0, 5, 9]) == Ok(times));
+    let Ok(TcpOption::Sack(blocks)) = read_option(&[5, 10, 0, 0, 0, 1, 0, 0, 0, 5, 9]) else {
+        panic!(rt; "one block is selective acknowledgment");
+    };
+    let mut blocks = blocks.iter();
+    assert!(rt; blocks.next() == Some(SackBlock { left: 1, right: 5 }));
+    assert!(rt; blocks.next().is_none());
+    let other = TcpOption::Other {
+        kind: 5,
+        data: &[0, 0, 0, 1],
+    };
+    assert!(rt; read_option(&[5, 6, 0, 0, 0, 1]) == Ok(other));
+    assert!(rt; read_option(&[8, 10, 1, 2, 3]).is_err());
+}
+
+#[test]
 fn an_option_is_written(rt: HostRuntime) {
     let mut room = [0xaa; 4];
     write_option(&TcpOption::Mss(1460), &mut room);
@@ -113,4 +148,15 @@ fn an_option_is_written(rt: HostRuntime) {
     };
     write_option(&other, &mut room);
     assert!(rt; room == [8, 4, 1, 2]);
+    let mut room = [0xaa; 10];
+    write_option(&TcpOption::Scale(7), &mut room);
+    assert!(rt; room[..3] == [3, 3, 7]);
+    let times = TcpOption::Times { value: 1, echo: 2 };
+    write_option(&times, &mut room);
+    assert!(rt; room == [8, 10, 0, 0, 0, 1, 0, 0, 0, 2]);
+    let blocks = SackBlocks {
+        spelled: &[0, 0, 0, 1, 0, 0, 0, 5],
+    };
+    write_option(&TcpOption::Sack(blocks), &mut room);
+    assert!(rt; room == [5, 10, 0, 0, 0, 1, 0, 0, 0, 5]);
 }

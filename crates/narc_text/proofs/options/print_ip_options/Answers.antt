@@ -2,7 +2,7 @@ use Rattle.std.proofs.Common.{◌≡◌, ◌++◌, ◌∷◌, codes, sym, ap, �
 use Rattle.narc_packet.specs.Options.{ip_options_in}
 use Rattle.narc_packet.specs.PacketView.{ip_option_view}
 use Rattle.narc_packet.specs.TextWords.{ip_option_word, ip_options_word}
-use Rattle.narc_text.proofs.OptionTexts.{list_word-first, Prints-next, Passes-next, IsPrinted-comma, IsPrinted-word}
+use Rattle.narc_text.proofs.OptionTexts.{list_word-first, Prints-next, Passes-next, IsPrinted-mark, IsPrinted-word}
 use Rattle.narc_text.proofs.options.print_ip_options.Goals as goal
 
 pub loop-option-init : goal.loop-option-init
@@ -29,9 +29,9 @@ loop-option-preserved g c =
     record {
       so_far = record {
         done = so_far.so_far.done ++ (codes "," ++ ip_option_word option);
-        split = Prints-next ip_option_word option left all before now cut so_far.so_far;
+        split = Prints-next 44 ip_option_word option left all before now cut so_far.so_far;
       };
-      printed = Passes-next ip_option_word option left all before now cut so_far.so_far c.loop-option.page (g.K.Sink.held c.args.sink.now) (g.K.Sink.held c.loop-option.sink) (g.K.Sink.held c.print_ip_option-in-loop-option.new.sink)
+      printed = Passes-next 44 ip_option_word option left all before now cut so_far.so_far c.loop-option.page (g.K.Sink.held c.args.sink.now) (g.K.Sink.held c.loop-option.sink) (g.K.Sink.held c.print_ip_option-in-loop-option.new.sink)
           so_far.printed c.print_word-in-loop-option.new.page c.print_ip_option-in-loop-option.new.page (g.K.Sink.held c.print_word-in-loop-option.new.sink) c.in_ok-print_word.ensures.printed c.in_ok-print_ip_option-2.ensures.printed;
       later = omega (arith, so_far.later, c.in_ok-print_word.ensures.faults.later, c.in_ok-print_ip_option-2.ensures.faults.later);
     }
@@ -42,7 +42,7 @@ returns-in_err-print_word-clause-printed g c =
     let option = ip_option_view c.in-Some-option.option in
     let so_far = c.loop-option.invariant in
     let answer = c.from_residual-in_err-print_word in
-    IsPrinted-comma ip_option_word option c.next-in-loop-option.new.self all c.args.page.now c.loop-option.option-iterator c.in-Some-option.ensures.steps so_far.so_far c.loop-option.page
+    IsPrinted-mark 44 ip_option_word option c.next-in-loop-option.new.self all c.args.page.now c.loop-option.option-iterator c.in-Some-option.ensures.steps so_far.so_far c.loop-option.page
     (g.K.Sink.held c.args.sink.now) (g.K.Sink.held c.loop-option.sink) (g.K.Sink.held c.print_word-in-loop-option.new.sink) so_far.printed
     c.print_word-in-loop-option.new.page answer.result answer.ensures.0 c.in_err-print_word.ensures.printed
 
@@ -52,6 +52,6 @@ returns-in_err-print_ip_option-2-clause-printed g c =
     let option = ip_option_view c.in-Some-option.option in
     let so_far = c.loop-option.invariant in
     let answer = c.from_residual-in_err-print_ip_option-2 in
-    IsPrinted-word ip_option_word option c.next-in-loop-option.new.self all c.args.page.now c.loop-option.option-iterator c.in-Some-option.ensures.steps so_far.so_far c.loop-option.page
+    IsPrinted-word 44 ip_option_word option c.next-in-loop-option.new.self all c.args.page.now c.loop-option.option-iterator c.in-Some-option.ensures.steps so_far.so_far c.loop-option.page
     (g.K.Sink.held c.args.sink.now) (g.K.Sink.held c.loop-option.sink) (g.K.Sink.held c.print_ip_option-in-loop-option.new.sink) so_far.printed
     c.print_word-in-loop-option.new.page c.print_ip_option-in-loop-option.new.page (g.K.Sink.held c.print_word-in-loop-option.new.sink) answer.result c.in_ok-print_word.ensures.printed answer.ensures.0 c.in_err-print_ip_option-2.ensures.printed

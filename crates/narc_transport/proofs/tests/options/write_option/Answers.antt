@@ -10,8 +10,8 @@ pub write-requires-clause-sound : goal.write-requires-clause-sound
 write-requires-clause-sound c = tcp_option_sound
 
 pub write-requires-clause-admitted : goal.write-requires-clause-admitted
-write-requires-clause-admitted c = option_admits c.args.option.now c.requires.is
+write-requires-clause-admitted c = option_admits c.args.option.now c.requires.is c.requires.whole
 
 pub write-requires-clause-enough : goal.write-requires-clause-enough
 write-requires-clause-enough c =
-    omega (arith, ap length (option_written c.args.option.now c.requires.is), length-bits (tcp_option (tcp_option_view c.args.option.now)), c.requires.enough)
+    omega (arith, ap length (option_written c.args.option.now c.requires.is c.requires.whole), length-bits (tcp_option (tcp_option_view c.args.option.now)), c.requires.enough)
