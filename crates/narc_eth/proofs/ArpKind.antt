@@ -1,7 +1,7 @@
 -- The layout of the first 6 octets of an ARP packet, which say what the addresses are.
 use Rattle.std.proofs.Common.{ℕ, ◌+◌, List, [], ◌∷◌, ◌++◌, lit<, lit≤, ◌||◌}
 use Rattle.narc_bits.specs.Octets.{is_shorter, number_at, big_endian}
-use Rattle.narc_format.specs.declared.field.TheConstants as field
+use Rattle.narc_packet.specs.declared.field.TheConstants as field
 use Rattle.narc_format.specs.Rows.{Row, row, differs}
 use Rattle.narc_packet.specs.Frame.{ipv4_type}
 use Rattle.narc_eth.specs.ArpPacket.{arp_kind}

@@ -2,7 +2,7 @@
 use Rattle.std.proofs.Common.{◌≡◌, ℕ, ◌+◌, ◌^◌, ◌<◌, List, [], ◌∷◌, ◌++◌, sym, ap, ◌∙◌, subst, append_assoc, lit≤}
 use Rattle.std.proofs.Math.Nat.{mod-eq_of_lt}
 use Rattle.narc_bits.specs.Octets.{is_shorter, big_endian}
-use Rattle.narc_format.specs.declared.field.TheConstants as field
+use Rattle.narc_packet.specs.declared.field.TheConstants as field
 use Rattle.narc_scalar.specs.Word.{word}
 use Rattle.narc_compose.specs.Named.{named}
 use Rattle.narc_packet.specs.declared.packet.Arp.{Arp}

@@ -2,7 +2,7 @@
 use Rattle.std.proofs.Common.{ℕ, ◌+◌, List, [], ◌∷◌, lit≤}
 use Rattle.narc_bits.specs.Octets.{is_shorter}
 use Rattle.narc_format.specs.Rows.{Row, row}
-use Rattle.narc_format.specs.declared.field.TheConstants as field
+use Rattle.narc_packet.specs.declared.field.TheConstants as field
 use Rattle.narc_eth.specs.EthernetHeader.{eth_head, IsHeaderInRange, header_octets}
 use Rattle.narc_layout.proofs.Layouts.{IsLayout}
 use Rattle.narc_layout.proofs.BothLayout.{both_layout}

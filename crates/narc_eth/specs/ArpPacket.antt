@@ -1,6 +1,6 @@
 -- An ARP packet for Ethernet and IPv4 (RFC 826).
 use Rattle.std.specs.Prelude.{◌≡◌, ℕ, ◌%◌, List}
-use Rattle.narc_format.specs.declared.field.TheConstants as field
+use Rattle.narc_packet.specs.declared.field.TheConstants as field
 use Rattle.narc_format.specs.Meaning.{Meaning}
 use Rattle.narc_scalar.specs.Constant.{constant}
 use Rattle.narc_scalar.specs.Octets.{fixed_octets}

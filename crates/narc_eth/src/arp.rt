@@ -12,8 +12,8 @@ ghost use Rattle.narc_eth.specs.ArpPacket.{RawArp, arp_of, raw_arp};
 
 use narc_bits::Cursor;
 use narc_compose::{Choose, Named, Strip, Then};
-use narc_format::{Format, field};
-use narc_packet::Arp;
+use narc_format::Format;
+use narc_packet::{Arp, field};
 use narc_scalar::{Const, Octets4, Octets6, Word};
 
 // 32 bits a line, from the first octet behind the Ethernet header (RFC 826, "Packet format"):

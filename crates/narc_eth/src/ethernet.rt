@@ -9,7 +9,8 @@ ghost use Rattle.narc_eth.specs.EthernetHeader.{Header, IsHeaderInRange, header_
 
 use narc_bits::Cursor;
 use narc_compose::{Named, Then};
-use narc_format::{Format, field};
+use narc_format::Format;
+use narc_packet::field;
 use narc_scalar::{Octets6, Word};
 
 // 32 bits a line, from the first octet of the frame (RFC 894):

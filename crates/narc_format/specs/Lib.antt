@@ -1,4 +1,3 @@
-pub mod Field
 pub mod Faults
 pub mod Meaning
 pub mod Reading

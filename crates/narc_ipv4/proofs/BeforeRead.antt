@@ -1,7 +1,7 @@
 -- The first 10 octets of a header, and the rows that refuse them.
 use Rattle.std.proofs.Common.{◌≡◌, ℕ, ◌+◌, ◌*◌, ◌^◌, ◌<◌, ◌≤◌, not, ◌||◌, List, [], ◌∷◌, ◌++◌, drop, IsTrue, lit≤, refl, ap, ◌∙◌, append_assoc}
 use Rattle.narc_bits.specs.Octets.{IsOctets, is_shorter, number_at, big_endian}
-use Rattle.narc_format.specs.declared.field.TheConstants as field
+use Rattle.narc_packet.specs.declared.field.TheConstants as field
 use Rattle.narc_scalar.specs.Word.{word}
 use Rattle.narc_format.specs.Rows.{Row, row}
 use Rattle.narc_compose.specs.Both.{both}

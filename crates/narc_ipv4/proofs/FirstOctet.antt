@@ -1,7 +1,7 @@
 -- Version and header length as one octet with two tests, and the rows that refuse it.
 use Rattle.std.proofs.Common.{◌≡◌, ℕ, ◌+◌, ◌/◌, ◌^◌, ◌<◌, not, ◌||◌, List, [], ◌∷◌, take, nat_eq, IsTrue, lit≤}
 use Rattle.narc_bits.specs.Octets.{is_shorter, number_at, big_endian}
-use Rattle.narc_format.specs.declared.field.TheConstants as field
+use Rattle.narc_packet.specs.declared.field.TheConstants as field
 use Rattle.narc_format.specs.Rows.{Row, row}
 use Rattle.narc_ipv4.specs.Header.{is_version, is_header_length, versioned, first_octet}
 use Rattle.narc_layout.proofs.ContextLayouts.{IsLayout}

@@ -3,7 +3,7 @@ use Rattle.std.proofs.Common.{◌≡◌, ℕ, ◌+◌, ◌^◌, ◌<◌, not, Li
 use Rattle.std.proofs.lemmas.List.{take_at}
 use Rattle.narc_bits.specs.Octets.{IsOctets, is_shorter, number_at, big_endian}
 use Rattle.narc_bits.proofs.Octets.{IsOctets-take, IsOctets-drop}
-use Rattle.narc_format.specs.declared.field.TheConstants as field
+use Rattle.narc_packet.specs.declared.field.TheConstants as field
 use Rattle.narc_scalar.specs.Octets.{fixed_octets}
 use Rattle.narc_scalar.specs.OctetsLaws.{fixed_octets_laws}
 use Rattle.narc_compose.specs.Gap.{gapped}

@@ -6,7 +6,7 @@ use Rattle.std.proofs.lemmas.List.{drop-drop}
 use Rattle.narc_bits.specs.Octets.{is_shorter, number_at, number_of}
 use Rattle.narc_bits.specs.InternetSum.{is_good_sum}
 use Rattle.narc_format.specs.Rows.{Row, row, first_failing, differs}
-use Rattle.narc_format.specs.declared.field.TheConstants as field
+use Rattle.narc_packet.specs.declared.field.TheConstants as field
 use Rattle.narc_layout.proofs.SameRows.{shorter-drop, or_assoc, not_and, not_not, row_same, row_passes}
 use Rattle.narc_packet.specs.Options.{bad_option}
 use Rattle.narc_packet.specs.Refusal.{header_length, total_length, area_in, options_row}

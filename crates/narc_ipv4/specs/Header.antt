@@ -1,7 +1,7 @@
 -- The header of an IPv4 packet (RFC 791).
 use Rattle.std.specs.Prelude.{◌≡◌, ℕ, ◌+◌, ◌*◌, ◌-◌, ◌/◌, ◌%◌, ◌^◌, ◌<◌, ◌≤◌, Bool, not, ◌&&◌, List, [], nat_lt, nat_eq, if◌then◌else◌}
 use Rattle.std.specs.Borrow.{Bor}
-use Rattle.narc_format.specs.declared.field.TheConstants as field
+use Rattle.narc_packet.specs.declared.field.TheConstants as field
 use Rattle.narc_format.specs.Meaning.{Meaning}
 use Rattle.narc_scalar.specs.Octets.{fixed_octets}
 use Rattle.narc_scalar.specs.Tested.{tested}

@@ -4,7 +4,7 @@ use Rattle.narc_bits.specs.Octets.{IsOctets, is_shorter, number_at}
 use Rattle.narc_bits.specs.Bits.{bits}
 use Rattle.narc_bits.specs.InternetSum.{IsGoodSum, is_good_sum, checksum}
 use Rattle.narc_format.specs.declared.fault.Fault.{Fault}
-use Rattle.narc_format.specs.declared.field.TheConstants as field
+use Rattle.narc_packet.specs.declared.field.TheConstants as field
 use Rattle.narc_format.specs.Meaning.{Meaning}
 use Rattle.narc_format.specs.Rows.{Row, row, differs}
 use Rattle.narc_layout.specs.FirstFault.{IsFirstFault}

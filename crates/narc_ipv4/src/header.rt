@@ -5,8 +5,8 @@ ghost use Rattle.narc_ipv4.specs.Header.{is_version, is_header_length, is_total_
 use crate::as_header::{AsHeader, RawBefore};
 use crate::part::BeforePart;
 use narc_compose::{Carry, Gap, Named, PartedFormat, Seq, Strip, Then};
-use narc_format::field;
 use narc_options::OptionRegion;
+use narc_packet::field;
 use narc_scalar::{Octets4, Test, Where, Word};
 use narc_sum::{Checked, NoPseudo};
 

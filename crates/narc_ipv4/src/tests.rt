@@ -1,6 +1,5 @@
 //! The header of an IPv4 packet, written out, read, refused and written.
 ghost use Rattle.std.specs.Prelude.{◌≡◌, ◌*◌, ◌<◌, ◌≤◌, length};
-ghost use Rattle.narc_format.specs.declared.field.TheConstants.{COUNT};
 
 use crate::header::{Before, IpArea};
 use crate::{
@@ -9,14 +8,14 @@ use crate::{
 };
 use narc_bits::{Cursor, Input, MAX_FRAME, Steps, Writer};
 use narc_compose::{Gap, Named, NoContext, Parted, PartedFormat, Seq, Strip};
-use narc_format::field::{
-    IPV4_CHECKSUM, IPV4_FLAGS, IPV4_HEADER_LENGTH, IPV4_OPTIONS, IPV4_TOS, IPV4_TOTAL_LENGTH,
-    IPV4_VERSION,
-};
 use narc_format::{Fault, Field, Format};
 use narc_list::Region;
 use narc_options::{ContextOctets, OptionAreaPart};
 use narc_packet::IpOptions;
+use narc_packet::field::{
+    IPV4_CHECKSUM, IPV4_FLAGS, IPV4_HEADER_LENGTH, IPV4_OPTIONS, IPV4_TOS, IPV4_TOTAL_LENGTH,
+    IPV4_VERSION,
+};
 use narc_samples::are_one;
 use narc_scalar::{Octets4, Where, Word};
 use narc_sum::{Checked, NoPseudo};
@@ -96,12 +95,11 @@ fn write<I: Input, F: Format<I>>(ctx: F::Ctx, value: &F::Value, room: &mut [u8])
 /// The field with this number is refused, at this octet.
 fn refuses(octets: &[u8], field: u8, at: u64) -> bool
     requires small { length octets.now ≤ MAX_FRAME }
-    requires known { field ≤ COUNT }
     requires near { at ≤ MAX_FRAME }
 {
     read_head(octets.len(), octets)
         == Err(Fault {
-            field: Field::of(field).unwrap(),
+            field: Field::of(field),
             at: 8 * at,
         })
 }

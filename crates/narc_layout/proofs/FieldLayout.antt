@@ -4,7 +4,7 @@ use Rattle.narc_bits.specs.Octets.{IsOctets}
 use Rattle.narc_bits.specs.Bits.{bits}
 use Rattle.narc_format.specs.Faults.{named_by, unnamed_fault}
 use Rattle.narc_format.specs.declared.fault.Fault.{Fault}
-use Rattle.narc_format.specs.declared.field.TheConstants.{COUNT}
+use Rattle.narc_format.specs.declared.field.TheConstants.{LAST}
 use Rattle.narc_format.specs.Meaning.{Meaning}
 use Rattle.narc_compose.specs.Named.{named}
 use Rattle.narc_compose.specs.NamedLaws.{named_laws}
@@ -49,7 +49,7 @@ module _ {C V : Type 0} {m : Meaning C V} {Ok : C → Type 0} {InRange : C → V
     };
   }
 
-  module _ (field : ℕ) (some : 1 ≤ field) (known : field ≤ COUNT) where
+  module _ (field : ℕ) (some : 1 ≤ field) (known : field ≤ LAST) where
     shape_named : IsShaped (named field m) Ok InRange octets_of size
     unfolding named
     shape_named = record {

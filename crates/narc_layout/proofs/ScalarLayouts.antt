@@ -14,7 +14,7 @@ use Rattle.narc_scalar.specs.OctetsLaws.{fixed_octets_laws}
 use Rattle.narc_scalar.specs.Constant.{constant}
 use Rattle.narc_scalar.specs.ConstantLaws.{constant_laws}
 use Rattle.narc_compose.specs.Named.{named}
-use Rattle.narc_format.specs.declared.field.TheConstants.{COUNT}
+use Rattle.narc_format.specs.declared.field.TheConstants.{LAST}
 use Rattle.narc_format.specs.Rows.{row, differs}
 use Rattle.narc_layout.proofs.NetworkOrder.{number_of-big_endian}
 use Rattle.narc_layout.proofs.Layouts.{IsLayout}
@@ -25,7 +25,7 @@ use Rattle.narc_layout.proofs.Fronts.{few, enough, long, cut, is_number}
 
 -- a number of k octets
 module _ (k : ℕ) (some : 1 ≤ k) (most : k ≤ 8) where
-  pub word_layout : (field : ℕ) → 1 ≤ field → field ≤ COUNT
+  pub word_layout : (field : ℕ) → 1 ≤ field → field ≤ LAST
       → IsLayout (named field (word (8 * k))) (λ v. v < 2 ^ (8 * k)) (big_endian k) k (λ start skip x. row field (start + skip) (is_shorter x (skip + k)) ∷ [])
   word_layout field low high = plain_layout (named_layout (shape_word k some most) (unnamed_word k some most) field low high)
 
@@ -65,7 +65,7 @@ module _ (k : ℕ) (some : 1 ≤ k) where
     reads = λ c skip x v later range joined. ap (take k) joined ∙ take_at v later k range.0;
   }
 
-  pub octets_layout : (field : ℕ) → 1 ≤ field → field ≤ COUNT → IsLayout (named field (fixed_octets k)) AreOctets (λ v. v) k (λ start skip x. row field (start + skip) (is_shorter x (skip + k)) ∷ [])
+  pub octets_layout : (field : ℕ) → 1 ≤ field → field ≤ LAST → IsLayout (named field (fixed_octets k)) AreOctets (λ v. v) k (λ start skip x. row field (start + skip) (is_shorter x (skip + k)) ∷ [])
   octets_layout field low high = plain_layout (named_layout shape_octets unnamed_octets field low high)
 
 -- one number of k octets
@@ -135,6 +135,6 @@ module _ (k n : ℕ) (some : 1 ≤ k) (most : k ≤ 8) (fits : n < 2 ^ (8 * k)) 
         let p = or_parts (is_shorter x (skip + k)) (differs (number_at x skip k) n) h in
         sym (bits-take (drop skip x) k (enough k skip x p.0)) ∙ ap bits (there skip x each h) ∙ bits-big_endian k n
 
-  pub constant_layout : (field : ℕ) → 1 ≤ field → field ≤ COUNT
+  pub constant_layout : (field : ℕ) → 1 ≤ field → field ≤ LAST
       → IsLayout (named field (constant (8 * k) n)) Always octets_of_n k (λ start skip x. row field (start + skip) (is_shorter x (skip + k) || differs (number_at x skip k) n) ∷ [])
   constant_layout field low high = plain_layout (named_layout shape_constant unnamed_constant field low high)

@@ -1,3 +1,4 @@
+pub mod Field
 pub mod Options
 pub mod PacketView
 pub mod Ranges

@@ -2,7 +2,7 @@
 use Rattle.std.specs.Prelude.{ℕ, ◌+◌, ◌*◌, ◌/◌, ◌%◌, Bool, not, ◌&&◌, ◌||◌, List, [], ◌∷◌, ◌++◌, length, take, drop, nat_eq, nat_lt, slice_range, Option, unwrap_or, is_some, if◌then◌else◌}
 use Rattle.narc_bits.specs.Octets.{is_shorter, number_at}
 use Rattle.narc_bits.specs.InternetSum.{is_good_sum}
-use Rattle.narc_format.specs.declared.field.TheConstants as field
+use Rattle.narc_packet.specs.declared.field.TheConstants as field
 use Rattle.narc_format.specs.Rows.{RefusalView, Row, row, first_failing, differs}
 use Rattle.narc_packet.specs.Options.{bad_option}
 use Rattle.narc_packet.specs.Udp.{udp_pseudo_header}

@@ -2,6 +2,7 @@
 #![tactic(auto)]
 
 mod blocks;
+pub mod field;
 mod limits;
 mod option_list;
 mod option_type;

@@ -1,8 +1,9 @@
 //! Options one by one, and packets at the edge of what has a frame.
 use super::{
     EthBody, IpBody, IpOption, IpOptionList, IpOptions, Ipv4, OptionError, Packet, SackBlock,
-    SackBlockList, TcpOption, TcpOptionList, TcpOptions, is_well_formed,
+    SackBlockList, TcpOption, TcpOptionList, TcpOptions, field, is_well_formed,
 };
+use narc_format::Field;
 use std::test::Fail;
 
 fn ipv4(mf: bool, body: IpBody<'_>) -> Packet<'_> {
@@ -220,4 +221,20 @@ fn data_of_another_type_fits_a_frame(rt: HostRuntime) {
     assert!(rt; !is_well_formed(&other(0x88b5, &octets)));
     assert!(rt; !is_well_formed(&other(0x0800, &[])));
     assert!(rt; !is_well_formed(&other(0x0806, &[])));
+}
+
+#[test]
+fn a_field_has_its_number_and_name(rt: HostRuntime) {
+    let names = [
+        (0, "unnamed"),
+        (1, "ethernet.destination"),
+        (8, "arp.operation"),
+        (16, "ipv4.total_length"),
+        (23, "udp.checksum"),
+        (30, "tcp.checksum"),
+        (31, "unnamed"),
+    ];
+    for (number, name) in names {
+        assert_eq!(rt; field::name(Field::of(number)), name);
+    }
 }

@@ -13,16 +13,22 @@ use Rattle.narc_run.specs.Findings.{Told, IsTold, AreTold, IsEntryAnswer}
 
 frame_answered : (octets : List ℕ) → IsOctets octets → length octets ≤ MAX_FRAME → (answer : Answer) × IsOnlyAnswer octets answer
 frame_answered octets each small = elim (either octets each small) [
-  | inl p ↦ (Ok p.0, record {
+  | inl p ↦ (
+    Ok p.0,
+    record {
       right = p.1;
       packet = λ q f. ap Ok (one_packet octets each p.0 q p.1 f);
       refused = λ r h. absurd (never_both octets each p.0 r p.1 h);
-    })
-  | inr r ↦ (Err r.0, record {
+    },
+  )
+  | inr r ↦ (
+    Err r.0,
+    record {
       right = r.1;
       packet = λ q f. absurd (never_both octets each q r.0 f r.1);
       refused = λ q h. let same : Some r.0 ≡ Some q = sym r.1 ∙ h in let one : r.0 ≡ q = cc in ap Err one;
-    })
+    },
+  )
 ]
 
 entry_answered : (e : Entry) → IsOctets e.octets → length e.octets ≤ MAX_FRAME → (answer : Option Answer) × IsEntryAnswer e answer

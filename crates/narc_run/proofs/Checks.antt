@@ -4,7 +4,7 @@ use Rattle.std.specs.Prelude.{cond, count_by, flat_map, nat_eq, slice_index, ifâ
 use Rattle.std.specs.List.{range_with_len}
 use Rattle.std.proofs.lemmas.List.{flat_map_more}
 use Rattle.std.proofs.lemmas.List.Sums.{count_by-le-length}
-use Rattle.narc_format.specs.declared.field.TheConstants.{COUNT}
+use Rattle.narc_packet.specs.declared.field.TheConstants.{COUNT}
 use Rattle.narc_packet.specs.Answer.{Answer}
 use Rattle.narc_pcap.specs.declared.limit.TheConstants.{CAPTURE_LIMIT}
 use Rattle.narc_pcap.specs.declared.record.End.{End}

@@ -1,6 +1,6 @@
 //! The job `check`: how many packets and refusals a capture has.
 ghost use Rattle.std.specs.Prelude.{◌≡◌, ◌+◌, ◌*◌, ◌-◌, ◌≤◌, ◌++◌, ◌∷◌, [], decimal, length};
-ghost use Rattle.narc_format.specs.declared.field.TheConstants.{COUNT};
+ghost use Rattle.narc_packet.specs.declared.field.TheConstants.{COUNT};
 ghost use Rattle.narc_run.specs.Job.{Check};
 ghost use Rattle.narc_run.specs.Output.{check_end, refused_line};
 ghost use Rattle.narc_run.specs.Counting.{AreCounts, counts_lines, refusal_lines};
@@ -13,7 +13,8 @@ use crate::outcome::Outcome;
 use crate::steps::RunSteps;
 use crate::visitor::Visitor;
 use crate::walk::run_walk;
-use narc_format::{Field, field};
+use narc_format::Field;
+use narc_packet::field;
 use narc_pcap::{End, Header, LONGEST_RECORD, Reader, Record};
 use narc_text::{PAGE_SIZE, Page, put_decimal};
 use narc_world::{Failed, Sink, Source};
@@ -23,7 +24,7 @@ use std::sync::ledger::Ledger;
 const LINE: usize = 64;
 
 /// As many octets as the lines of all fields have at most.
-const REFUSALS: usize = NUMBERS * LINE;
+const REFUSALS: usize = field::COUNT as usize * LINE;
 
 /// A word with a space behind it, and a number.
 fn put_line(word: &[u8], number: u64, page: &mut Page)
@@ -39,7 +40,6 @@ fn put_line(word: &[u8], number: u64, page: &mut Page)
 
 /// The line of a field with so many refusals, where there are any.
 fn put_refused(number: u8, count: u64, page: &mut Page)
-    requires field { number ≤ COUNT }
     requires room { length page.old + LINE ≤ PAGE_SIZE }
     ensures value { page.new ≡ page.old ++ refused_line number count }
     ensures bound { length page.new ≤ length page.old + LINE }
@@ -48,7 +48,7 @@ fn put_refused(number: u8, count: u64, page: &mut Page)
         return;
     }
     page.put(b"refused ");
-    page.put(Field::of(number).unwrap().name().as_bytes());
+    page.put(field::name(Field::of(number)).as_bytes());
     page.put(b" ");
     put_decimal(page, count);
     page.put(b"\n");

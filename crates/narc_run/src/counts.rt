@@ -8,7 +8,7 @@ use crate::tally::Tally;
 use narc_format::field;
 
 /// How many numbers of fields there are: 0 is that of no field in particular.
-pub(crate) const NUMBERS: usize = field::COUNT as usize + 1;
+pub(crate) const NUMBERS: usize = field::LAST as usize + 1;
 
 /// Counts of records, and of those that were refused for each field, by the field's number.
 #[derive(Drop)]

@@ -13,7 +13,7 @@ use crate::input::{Filled, fill};
 use crate::outcome::Outcome;
 use crate::steps::RunSteps;
 use narc_bits::MAX_FRAME;
-use narc_packet::Packet;
+use narc_packet::{Packet, field};
 use narc_stack::{Refusal, decode_frame};
 use narc_text::{Page, print_packet, put_decimal};
 use narc_world::{FRAME_BUFFER, Failed, Sink, Source};
@@ -42,7 +42,7 @@ fn print_refusal<K: Sink>(refusal: &Refusal, page: &mut Page, sink: &mut K) -> R
 {
     page.make_room(REFUSAL, sink)?;
     page.put(b"refused ");
-    page.put(refusal.field.name().as_bytes());
+    page.put(field::name(refusal.field).as_bytes());
     page.put(b" ");
     put_decimal(page, refusal.at);
     page.put(b"\n");

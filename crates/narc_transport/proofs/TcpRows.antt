@@ -7,7 +7,7 @@ use Rattle.narc_bits.specs.Octets.{IsOctets, is_shorter, number_at, number_of}
 use Rattle.narc_bits.specs.InternetSum.{is_good_sum, is_good_total}
 use Rattle.narc_bits.proofs.Octets.{IsOctets-drop}
 use Rattle.narc_format.specs.Rows.{Row, row, first_failing}
-use Rattle.narc_format.specs.declared.field.TheConstants as field
+use Rattle.narc_packet.specs.declared.field.TheConstants as field
 use Rattle.narc_layout.proofs.SameRows.{same_fail, shorter-drop, row_same, row_passes}
 use Rattle.narc_layout.proofs.SumReads.{sum_of_octets, good_behind}
 use Rattle.narc_packet.specs.Options.{bad_option}

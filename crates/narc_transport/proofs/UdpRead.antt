@@ -3,7 +3,7 @@ use Rattle.std.proofs.Common.{◌≡◌, ℕ, Bool, ◌+◌, ◌-◌, ◌^◌, �
 use Rattle.std.specs.Borrow.{Bor}
 use Rattle.narc_bits.specs.Octets.{is_shorter, number_at, big_endian}
 use Rattle.narc_format.specs.Rows.{Row, row}
-use Rattle.narc_format.specs.declared.field.TheConstants as field
+use Rattle.narc_packet.specs.declared.field.TheConstants as field
 use Rattle.narc_compose.specs.Gap.{gapped}
 use Rattle.narc_layout.proofs.NetworkOrder.{number_of-big_endian}
 use Rattle.narc_layout.proofs.FieldLayout.{named_layout}

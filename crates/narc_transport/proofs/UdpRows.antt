@@ -7,7 +7,7 @@ use Rattle.narc_bits.specs.Bits.{bits}
 use Rattle.narc_bits.specs.InternetSum.{is_good_sum, is_good_total}
 use Rattle.narc_bits.proofs.Octets.{IsOctets-take}
 use Rattle.narc_format.specs.Rows.{row, first_failing, differs}
-use Rattle.narc_format.specs.declared.field.TheConstants as field
+use Rattle.narc_packet.specs.declared.field.TheConstants as field
 use Rattle.narc_layout.proofs.SameRows.{same_test, shorter-drop, not_true, or_assoc, not_and, not_or, not_not, row_same, row_passes}
 use Rattle.narc_layout.proofs.SumReads.{has_no_sum, sum_of_octets, word_in_hole, good_behind}
 use Rattle.narc_packet.specs.Udp.{udp_pseudo_header}

@@ -1,6 +1,6 @@
 -- What datagrams, segments and options promise, each a term made of the laws of its rules.
 use Rattle.std.specs.Prelude.{ℕ, ◌-◌, ◌<◌, ◌^◌}
-use Rattle.narc_format.specs.declared.field.TheConstants as field
+use Rattle.narc_packet.specs.declared.field.TheConstants as field
 use Rattle.narc_format.specs.Laws.{Laws, TailLaws}
 use Rattle.narc_scalar.specs.Tested.{tested}
 use Rattle.narc_scalar.specs.TestedLaws.{tested_laws}

@@ -9,9 +9,9 @@ use crate::context::Ends;
 use crate::pseudo::ends_sum;
 use crate::tcp_front::{RawTcpFront, TcpFront};
 use narc_compose::{Carry, Gap, Named, Seq, SeqTail, Strip};
-use narc_format::field;
 use narc_list::Bytes;
 use narc_options::OptionRegion;
+use narc_packet::field;
 use narc_scalar::Word;
 use narc_sum::{CheckedTail, Pseudo};
 

@@ -1,6 +1,5 @@
 //! Datagrams and segments read and written at their types.
 ghost use Rattle.std.specs.Prelude.{◌≡◌, ◌+◌, ◌*◌, ◌≤◌, length};
-ghost use Rattle.narc_format.specs.declared.field.TheConstants.{COUNT};
 ghost use Rattle.narc_packet.specs.PacketView.{udp_view};
 ghost use Rattle.narc_transport.specs.Written.{FitsUdp, FitsTcp};
 
@@ -51,11 +50,10 @@ fn read<I: Input, F: Tail<I, Ctx = (Ends, usize)>>(
 
 /// The fault at this octet of the field with this number.
 fn fault(field: u8, octet: u64) -> Fault
-    requires known { field ≤ COUNT }
-    requires near { octet ≤ MAX_CHECKED }
+    requires { octet ≤ MAX_CHECKED }
 {
     Fault {
-        field: Field::of(field).unwrap(),
+        field: Field::of(field),
         at: 8 * octet,
     }
 }

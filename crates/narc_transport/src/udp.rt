@@ -8,9 +8,9 @@ use crate::context::Ends;
 use crate::pseudo::ends_sum;
 use crate::udp_front::{RawUdpFront, UdpFront};
 use narc_compose::{Carry, Gap, Measured, Named, Seq, SeqTail, Strip};
-use narc_format::field;
 use narc_list::{Bytes, Pad, Region};
 use narc_options::{AnyOctets, ContextOctets};
+use narc_packet::field;
 use narc_sum::{CheckedOrNone, Pseudo};
 
 // 32 bits a line (RFC 768):

@@ -4,7 +4,7 @@ ghost use Rattle.narc_transport.specs.Udp.{is_udp_length};
 
 use crate::carried::ForSecond;
 use narc_compose::{Named, Seq, Then};
-use narc_format::field;
+use narc_packet::field;
 use narc_scalar::{Test, Where, Word};
 
 type Source = Named<Word<16>, { field::UDP_SOURCE }>;

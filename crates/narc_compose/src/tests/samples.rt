@@ -8,11 +8,21 @@ use crate::{
     Carry, Choose, Either, Named, NoContext, Part, Parted, Pick, Seq, SeqTail, Strip, Then, Union,
 };
 use narc_bits::{Cursor, Steps, Writer};
-use narc_format::field::{IPV4_HEADER_LENGTH, IPV4_VERSION, UDP_DESTINATION, UDP_SOURCE};
 use narc_format::{Fault, Tail};
 use narc_list::Bytes;
 use narc_scalar::Word;
 use std::sync::ledger::Ledger;
+
+/// The fields of these formats.
+pub const SOURCE: u8 = 1;
+
+pub const DESTINATION: u8 = 2;
+
+pub const DATAGRAM: u8 = 3;
+
+pub const HIGH: u8 = 4;
+
+pub const LOW: u8 = 5;
 
 /// The first part is the context of the second.
 pub struct Kind;
@@ -123,7 +133,7 @@ impl<'a> Part<Cursor<'a>> for Payload {
     ghost laws = { all_octets_laws };
 }
 
-pub type Ports = Then<Named<Word<16>, UDP_SOURCE>, Named<Word<16>, UDP_DESTINATION>>;
+pub type Ports = Then<Named<Word<16>, SOURCE>, Named<Word<16>, DESTINATION>>;
 
 pub type Datagram = SeqTail<Ports, Parted<Payload>, NoContext>;
 
@@ -139,6 +149,6 @@ pub type Spare = Strip<Then<Word<1>, Word<7>>, WithoutBit>;
 
 pub type SpareTail = Strip<SeqTail<Word<8>, Bytes, NoContext>, WithoutOctet>;
 
-pub type Halves = Then<Named<Word<4>, IPV4_VERSION>, Named<Word<4>, IPV4_HEADER_LENGTH>>;
+pub type Halves = Then<Named<Word<4>, HIGH>, Named<Word<4>, LOW>>;
 
-pub type Octets = Then<Named<Word<8>, IPV4_VERSION>, Named<Word<8>, IPV4_HEADER_LENGTH>>;
+pub type Octets = Then<Named<Word<8>, HIGH>, Named<Word<8>, LOW>>;

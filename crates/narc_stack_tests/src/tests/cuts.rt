@@ -2,7 +2,7 @@
 ghost use Rattle.std.specs.Prelude.{◌≤◌};
 
 use super::{SEGMENT, refuses};
-use narc_format::field;
+use narc_packet::field;
 use narc_samples::{ARP_REQUEST, DATAGRAM};
 
 /// Where a frame of IPv4 is refused that ends behind so many octets: the field, and its place.

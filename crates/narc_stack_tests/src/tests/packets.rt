@@ -5,8 +5,7 @@ use super::{
     SEGMENT, connection_request, datagram, datagram_with, ipv4_of, is_frame_of, packet_of, refuses,
     request, request_with,
 };
-use narc_format::field;
-use narc_packet::{EthBody, IpBody, Ipv4, Udp};
+use narc_packet::{EthBody, IpBody, Ipv4, Udp, field};
 use narc_samples::{ARP_REQUEST, CONNECTION_REQUEST, DATAGRAM, ODD_DATAGRAM, UNREAD_TYPE};
 
 #[test]

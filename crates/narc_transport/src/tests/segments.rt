@@ -5,9 +5,9 @@ use crate::{
     AreaBehind, AsTcp, ForFirst, ForSecond, IsOffset, TcpFormat, TcpPseudo, TcpWithOffset,
 };
 use narc_compose::{Gap, Named, NoContext, Parted, Seq, SeqTail, Strip};
-use narc_format::field::{TCP_CHECKSUM, TCP_OFFSET, TCP_OPTIONS};
 use narc_list::{Bytes, Region};
 use narc_options::{ContextOctets, OptionAreaPart};
+use narc_packet::field::{TCP_CHECKSUM, TCP_OFFSET, TCP_OPTIONS};
 use narc_packet::{Tcp, TcpOptions};
 use narc_samples::{CONNECTION_REQUEST, are_one};
 use narc_scalar::{Where, Word};

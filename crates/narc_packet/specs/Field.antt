@@ -38,4 +38,4 @@ field_names =
     ∷ []
 
 abbrev pub field_name : ℕ → List ℕ
-field_name number = unwrap_or (slice_get field_names number) []
+field_name number = unwrap_or (slice_get field_names number) (codes "unnamed")
