@@ -72,7 +72,19 @@ pub fn name(field: Field) -> &'static str
     ensures value { result.now ≡ field_name field }
     ensures bound { length result.now ≤ 20 }
 {
-    match field.number() {
+    if field.number() > COUNT {
+        "unnamed"
+    } else {
+        known_name(field.number())
+    }
+}
+
+fn known_name(number: u8) -> &'static str
+    requires { number ≤ COUNT }
+    ensures value { result.now ≡ field_name number }
+    ensures bound { length result.now ≤ 20 }
+{
+    match number {
         ETHERNET_DESTINATION => "ethernet.destination",
         ETHERNET_SOURCE => "ethernet.source",
         ETHERNET_TYPE => "ethernet.type",
