@@ -1,5 +1,3 @@
-pub mod OptionSound
-pub mod OptionOctets
 pub mod HeaderSound
 pub mod HeaderChosen
 pub mod FirstOctet

@@ -1,4 +1,4 @@
--- What an option and a header promise, each a term made of the laws of its rules.
+-- What a header promises, each a term made of the laws of its rules.
 use Rattle.std.specs.Prelude.{◌<◌, ◌^◌, []}
 use Rattle.narc_packet.specs.declared.field.TheConstants as field
 use Rattle.narc_format.specs.Meaning.{Meaning}
@@ -18,13 +18,9 @@ use Rattle.narc_compose.specs.SeqLaws.{seq_laws}
 use Rattle.narc_compose.specs.StripLaws.{stripped_laws}
 use Rattle.narc_sum.specs.Checked.{checked}
 use Rattle.narc_sum.specs.CheckedLaws.{checked_laws}
-use Rattle.narc_options.specs.Option.{option_fields, option_region}
-use Rattle.narc_options.specs.Laws.{option_fields_laws, option_region_laws}
-use Rattle.narc_ipv4.specs.Option.{ip_option_of, raw_ip_option, SameIpOption, ip_option_format}
+use Rattle.narc_options.specs.Option.{option_region}
+use Rattle.narc_options.specs.Laws.{option_region_laws}
 use Rattle.narc_ipv4.specs.Header.{is_version, is_header_length, is_total_length, is_flags, header_length_of, area_length_of, header_of, raw_header, SameHeader, versioned, first_octet, ip_service, ip_total, ip_lengths, ip_fragment, ip_middle, ip_before, ip_area, ip_behind, ip_fields, ip_summed, ip_head}
-
-pub ip_option_laws : Laws ip_option_format
-ip_option_laws = stripped_laws ip_option_of (λ c o. raw_ip_option o) SameIpOption option_fields option_fields_laws
 
 versioned_laws : Laws versioned
 versioned_laws = named_laws field.IPV4_VERSION (tested is_version (word 8)) (tested_laws is_version (word 8) (word_laws 8))

@@ -1,4 +1,3 @@
-pub mod Option
 pub mod Header
 pub mod Laws
 pub mod HeaderOctets

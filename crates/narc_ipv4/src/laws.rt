@@ -1,23 +1,10 @@
 //! What is proved of the formats.
-ghost use Rattle.narc_ipv4.specs.Option.{IsItsOption};
 ghost use Rattle.narc_ipv4.specs.Header.{StandsElsewhere};
 ghost use Rattle.narc_ipv4.specs.HeaderOctets.{IsItsOctets, IsRefusedByRow, AdmitsWhatFits, IsWrittenWithItsChecksum};
 
-use crate::option::IpOptionFormat;
 use crate::part::IpHeadPart;
 use narc_bits::Cursor;
 use narc_compose::FormatPart;
-use narc_format::Format;
-
-/// The conditions of the rules of an option hold.
-pub fn ip_option_format_is_sound()
-    ensures { ⟦<IpOptionFormat as Format<Cursor<'static>>>⟧.meaning.sound }
-{}
-
-/// The bits that stand for an option are those of its octets, and no others.
-pub fn ip_option_format_is_its_octets()
-    ensures { IsItsOption ⟦<IpOptionFormat as Format<Cursor<'static>>>⟧.meaning }
-{}
 
 /// The conditions of the rules of a header hold.
 pub fn ip_head_is_sound()

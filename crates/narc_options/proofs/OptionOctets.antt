@@ -15,8 +15,10 @@ use Rattle.narc_compose.specs.Union.{united, Sides}
 use Rattle.narc_list.specs.Bytes.{all_octets}
 use Rattle.narc_list.specs.Pad.{padding}
 use Rattle.narc_list.specs.Region.{region}
-use Rattle.narc_packet.specs.Options.{IpOptionView, IpNop, IpOther, ip_option, IsIpOption}
-use Rattle.narc_options.specs.OptionOctets.{IsRawOption, raw_view, IsItsOption}
+use Rattle.narc_packet.specs.Options.{IpOptionView, IpNop, IpOther, ip_option, tcp_option, IsIpOption, IsTcpOption, tcp_option_of}
+use Rattle.narc_packet.proofs.TypedOptions.{ip_option_like, tcp_option_of-like, IsIpOption-like, IsTcpOption-of}
+use Rattle.narc_packet.proofs.SpelledOptions.{tcp_option-of}
+use Rattle.narc_options.specs.OptionOctets.{IsRawOption, raw_view, AreItsFields, IsItsOption}
 use Rattle.narc_options.specs.Option.{is_kind, is_option_length, RawOption, nothing, length_and_data, option_fields}
 use Rattle.narc_options.proofs.OptionSound.{kind_some, length_least, length_most}
 
@@ -101,7 +103,7 @@ cut_option kind (Right r) h = record {
 }
 
 -- exactly the spellings of options stand
-pub option_octets : IsItsOption option_fields
+pub option_octets : AreItsFields option_fields
 unfolding seq tested word united
 option_octets v b = (
   λ p.
@@ -112,3 +114,33 @@ option_octets v b = (
       let c = cut_option v.0 v.1 h.0 in
       record { front = bits_of_number 8 v.0; back = c.back; joined = h.1 ∙ c.joined; first = ((c.small, refl), kind_holds v.0 c.some); second = c.behind },
 )
+
+-- options that are told apart by kind and data: each has a spelling, and is that of its kind and data
+record AreLike {O : Type 0} (option_of : IpOptionView → O) (like : O → IpOptionView) (IsOption : O → Type 0) (spelling : O → List ℕ) : Type 0 where
+  is : (option : IpOptionView) → IsIpOption option → IsOption (option_of option)
+  spelled : (option : IpOptionView) → IsIpOption option → spelling (option_of option) ≡ ip_option option
+  is_like : (option : O) → IsOption option → IsIpOption (like option)
+  again : (option : O) → IsOption option → option_of (like option) ≡ option
+
+-- exactly the spellings of such options stand
+its_option : {O : Type 0} (option_of : IpOptionView → O) (like : O → IpOptionView) (IsOption : O → Type 0) (spelling : O → List ℕ)
+    → AreLike option_of like IsOption spelling → IsItsOption option_of IsOption spelling option_fields
+its_option option_of like IsOption spelling are option b = (
+  λ p.
+      let h = (option_octets p.fields b).0 p.stood in
+      let is = raw_option p.fields h.0 in
+      (subst IsOption p.is (are.is (raw_view p.fields) is), h.1 ∙ ap bits (sym (are.spelled (raw_view p.fields) is)) ∙ ap (λ o. bits (spelling o)) p.is),
+  λ h.
+      let is = are.is_like option h.0 in
+      let fields = fields_of (like option) in
+      let view = view_of_fields (like option) in
+      let same = ap option_of view ∙ are.again option h.0 in
+      let octets = ap spelling (sym (are.again option h.0)) ∙ are.spelled (like option) is ∙ ap ip_option (sym view) in
+      record { fields = fields; is = same; stood = (option_octets fields b).1 (fields_are_raw (like option) is, h.1 ∙ ap bits octets) },
+)
+
+pub its_ip_option : IsItsOption (λ option. option) IsIpOption ip_option option_fields
+its_ip_option = its_option (λ option. option) (λ option. option) IsIpOption ip_option (record { is = λ option is. is; spelled = λ option is. refl; is_like = λ option is. is; again = λ option is. refl })
+
+pub its_tcp_option : IsItsOption tcp_option_of IsTcpOption tcp_option option_fields
+its_tcp_option = its_option tcp_option_of ip_option_like IsTcpOption tcp_option (record { is = IsTcpOption-of; spelled = tcp_option-of; is_like = IsIpOption-like; again = tcp_option_of-like })

@@ -21,8 +21,18 @@ raw_view (kind, Left u) = IpNop
 raw_view (kind, Right rest) = IpOther kind rest.1.now
 
 -- exactly the spellings of options stand for their fields
-abbrev pub IsItsOption : Meaning (Unit {0}) RawOption → Type 0
-IsItsOption m = (v : RawOption) (b : List Bool) → m.stands tt v b ↔ (IsRawOption v × (b ≡ bits (ip_option (raw_view v))))
+abbrev pub AreItsFields : Meaning (Unit {0}) RawOption → Type 0
+AreItsFields m = (v : RawOption) (b : List Bool) → m.stands tt v b ↔ (IsRawOption v × (b ≡ bits (ip_option (raw_view v))))
+
+-- The bits stand for fields that are seen as this option.
+pub record StandsFor {O : Type 0} (option_of : IpOptionView → O) (m : Meaning (Unit {0}) RawOption) (option : O) (b : List Bool) : Type 0 where
+  pub fields : RawOption
+  pub is : option_of (raw_view fields) ≡ option
+  pub stood : m.stands tt fields b
+
+-- exactly the spelling of an option stands for it
+abbrev pub IsItsOption : {O : Type 0} → (IpOptionView → O) → (O → Type 0) → (O → List ℕ) → Meaning (Unit {0}) RawOption → Type 0
+IsItsOption {O} option_of IsOption spelling m = (option : O) (b : List Bool) → StandsFor option_of m option b ↔ (IsOption option × (b ≡ bits (spelling option)))
 
 -- The octets are these spellings of options, and then an end; at most 40.
 pub record IsAreaOf (spelled area : List ℕ) : Type 0 where

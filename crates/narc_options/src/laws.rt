@@ -1,5 +1,6 @@
 //! What is proved of options and their areas.
-ghost use Rattle.narc_options.specs.OptionOctets.{IsItsOption, IsItsArea, IsRefusedByRow};
+ghost use Rattle.narc_options.specs.OptionOctets.{AreItsFields, IsItsOption, IsItsArea, IsRefusedByRow};
+ghost use Rattle.narc_packet.specs.Options.{ip_option, tcp_option, tcp_option_of, IsIpOption, IsTcpOption};
 
 use crate::area::{OptionArea, OptionRegion};
 use crate::option::OptionFields;
@@ -23,7 +24,18 @@ pub fn option_region_is_sound()
 
 /// The bits that stand for the fields of an option are those of the option's octets, and no others.
 pub fn option_fields_are_their_octets()
-    ensures { IsItsOption ⟦<OptionFields as Format<Cursor<'static>>>⟧.meaning }
+    ensures { AreItsFields ⟦<OptionFields as Format<Cursor<'static>>>⟧.meaning }
+{}
+
+/// Bits stand for an option of an IPv4 header exactly where they are those of its octets.
+pub fn ip_option_is_its_octets()
+    ensures { IsItsOption (λ option. option) IsIpOption ip_option ⟦<OptionFields as Format<Cursor<'static>>>⟧.meaning }
+{}
+
+/// Bits stand for an option of a TCP header exactly where they are those of its octets: one that has a value of its own by its
+/// kind and length, or another.
+pub fn tcp_option_is_its_octets()
+    ensures { IsItsOption tcp_option_of IsTcpOption tcp_option ⟦<OptionFields as Format<Cursor<'static>>>⟧.meaning }
 {}
 
 /// Octets stand for the spellings of options exactly where they are these, and then an end; at most 40.

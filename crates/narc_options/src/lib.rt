@@ -10,8 +10,9 @@ mod tests;
 
 pub use area::{OptionArea, OptionRegion};
 pub use laws::{
-    option_area_is_its_octets, option_area_is_refused_by_row, option_area_is_sound,
-    option_fields_are_sound, option_fields_are_their_octets, option_region_is_sound,
+    ip_option_is_its_octets, option_area_is_its_octets, option_area_is_refused_by_row,
+    option_area_is_sound, option_fields_are_sound, option_fields_are_their_octets,
+    option_region_is_sound, tcp_option_is_its_octets,
 };
 pub use option::{
     AnyOctets, ByKind, ContextOctets, Data, DataOf, IsKind, IsOptionLength, Kind, KindOf, Length,

@@ -13,5 +13,3 @@ pub mod TcpRows
 pub mod UdpWritten
 pub mod TcpWritten
 pub mod TestEnds
-pub mod OptionSound
-pub mod OptionOctets

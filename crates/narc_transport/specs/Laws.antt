@@ -1,4 +1,4 @@
--- What datagrams, segments and options promise, each a term made of the laws of its rules.
+-- What datagrams and segments promise, each a term made of the laws of its rules.
 use Rattle.std.specs.Prelude.{ℕ, ◌-◌, ◌<◌, ◌^◌}
 use Rattle.narc_packet.specs.declared.field.TheConstants as field
 use Rattle.narc_format.specs.Laws.{Laws, TailLaws}
@@ -12,21 +12,18 @@ use Rattle.narc_compose.specs.Named.{named}
 use Rattle.narc_compose.specs.NamedLaws.{named_laws, named_tail_laws}
 use Rattle.narc_compose.specs.SeqLaws.{seq_laws}
 use Rattle.narc_compose.specs.SeqTailLaws.{seq_tail_laws}
-use Rattle.narc_compose.specs.StripLaws.{stripped_laws, stripped_tail_laws}
-use Rattle.narc_compose.specs.UnionLaws.{united_laws}
-use Rattle.narc_compose.specs.Both.{both}
+use Rattle.narc_compose.specs.StripLaws.{stripped_tail_laws}
 use Rattle.narc_compose.specs.Both.{both}
 use Rattle.narc_list.specs.Pad.{padding}
 use Rattle.narc_list.specs.PadLaws.{padding_laws}
 use Rattle.narc_list.specs.Bytes.{all_octets}
 use Rattle.narc_list.specs.BytesLaws.{all_octets_laws}
-use Rattle.narc_options.specs.Option.{option_kind, option_length, option_data, nothing, option_region}
-use Rattle.narc_options.specs.Laws.{option_kind_laws, option_length_laws, option_data_laws, nothing_laws, option_region_laws}
+use Rattle.narc_options.specs.Option.{option_region}
+use Rattle.narc_options.specs.Laws.{option_data_laws, option_region_laws}
 use Rattle.narc_sum.specs.Checked.{checked_or_none, checked_tail}
 use Rattle.narc_sum.specs.CheckedLaws.{checked_or_none_laws}
 use Rattle.narc_sum.specs.CheckedTailLaws.{checked_tail_laws}
 use Rattle.narc_transport.specs.Context.{IsThere}
-use Rattle.narc_transport.specs.Option.{by_tcp_kind, type_and_count, IsInRange, by_permitted, by_size, by_scale, by_times, tcp_option_with, raw_tcp_option, SameTcpOption, times_or_data, scale_or_else, size_or_else, typed_data, behind_length, behind_tcp_kind, raw_tcp_option_format, tcp_option_format}
 use Rattle.narc_transport.specs.Udp.{is_udp_length, udp_pseudo_of, udp_of, raw_udp, SameUdp, udp_ports, udp_length, udp_front, udp_payload, udp_datagram, udp_summed, udp_and_surplus, udp_format}
 use Rattle.narc_transport.specs.Tcp.{is_offset, tcp_pseudo_of, tcp_area_length, tcp_of, raw_tcp, SameTcp, tcp_ports, tcp_places, tcp_offset, tcp_words, tcp_front, tcp_options, tcp_urgent, tcp_behind, tcp_segment, tcp_summed, tcp_format}
 
@@ -93,30 +90,3 @@ tcp_summed_laws = named_tail_laws field.TCP_CHECKSUM (checked_tail tcp_pseudo_of
 
 pub tcp_laws : TailLaws tcp_format
 tcp_laws = stripped_tail_laws tcp_of (λ c t. raw_tcp t) SameTcp tcp_summed tcp_summed_laws
-
-times_laws : Laws (both (word 32) (word 32))
-times_laws = seq_laws (λ c. c) (λ c v. c) (λ c. Unit {0}) (word 32) (word 32) (word_laws 32) (word_laws 32)
-
-times_or_data_laws : Laws times_or_data
-times_or_data_laws = united_laws by_times IsInRange (both (word 32) (word 32)) option_data times_laws option_data_laws
-
-scale_or_else_laws : Laws scale_or_else
-scale_or_else_laws = united_laws by_scale IsInRange (word 8) times_or_data (word_laws 8) times_or_data_laws
-
-size_or_else_laws : Laws size_or_else
-size_or_else_laws = united_laws by_size IsInRange (word 16) scale_or_else (word_laws 16) scale_or_else_laws
-
-typed_data_laws : Laws typed_data
-typed_data_laws = united_laws by_permitted IsInRange nothing size_or_else nothing_laws size_or_else_laws
-
-behind_length_laws : Laws behind_length
-behind_length_laws = seq_laws (λ kind. tt) type_and_count (λ kind. kind < 2 ^ 64) option_length typed_data option_length_laws typed_data_laws
-
-behind_tcp_kind_laws : Laws behind_tcp_kind
-behind_tcp_kind_laws = united_laws by_tcp_kind (λ kind. kind < 2 ^ 64) nothing behind_length nothing_laws behind_length_laws
-
-raw_tcp_option_laws : Laws raw_tcp_option_format
-raw_tcp_option_laws = seq_laws (λ c. c) (λ c kind. kind) (λ c. Unit {0}) option_kind behind_tcp_kind option_kind_laws behind_tcp_kind_laws
-
-pub tcp_option_laws : Laws tcp_option_format
-tcp_option_laws = stripped_laws tcp_option_with (λ c o. raw_tcp_option o) SameTcpOption raw_tcp_option_format raw_tcp_option_laws

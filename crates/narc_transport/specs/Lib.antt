@@ -1,5 +1,4 @@
 pub mod Context
-pub mod Option
 pub mod Udp
 pub mod Tcp
 pub mod Segment

@@ -13,16 +13,14 @@ ghost use Rattle.narc_packet.specs.Refusal.{tcp_rows, udp_rows};
 ghost use Rattle.narc_transport.specs.declared.context.Ends.{Ends};
 ghost use Rattle.narc_transport.specs.declared.as_tcp.TcpWithOffset.{TcpWithOffset};
 ghost use Rattle.narc_transport.specs.Context.{IsEnds};
-ghost use Rattle.narc_transport.specs.Option.{IsItsOption};
 ghost use Rattle.narc_transport.specs.Segment.{IsSegment};
 ghost use Rattle.narc_transport.specs.Written.{FitsTcp, FitsUdp};
 
-use crate::option::TcpOptionFormat;
 use crate::parts::TcpPart;
 use crate::udp::UdpFormat;
 use narc_bits::Cursor;
 use narc_compose::Part;
-use narc_format::{Format, Tail};
+use narc_format::Tail;
 
 /// The conditions of the rules hold.
 pub fn udp_format_is_sound()
@@ -76,14 +74,4 @@ pub fn tcp_format_admits_what_fits()
 /// checksum.
 pub fn tcp_format_is_written_with_its_checksum()
     ensures { (e : Ends) (there : ℕ) (s : TcpWithOffset) → IsEnds e → there < 2 ^ 64 → FitsTcp there s → 4 * s.offset ≡ 20 + length (tcp_area (tcp_view s.tcp).options) → ⟦<TcpPart as Part<Cursor<'static>>>⟧.meaning.spelling (e, there) s ≡ bits (canonical_tcp e.src e.dst (tcp_view s.tcp)) }
-{}
-
-/// The conditions of the rules hold.
-pub fn tcp_option_format_is_sound()
-    ensures { ⟦<TcpOptionFormat as Format<Cursor<'static>>>⟧.meaning.sound }
-{}
-
-/// The bits that stand for an option are those of its octets, and no others.
-pub fn tcp_option_format_is_its_octets()
-    ensures { IsItsOption ⟦<TcpOptionFormat as Format<Cursor<'static>>>⟧.meaning }
 {}

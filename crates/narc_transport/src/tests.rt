@@ -4,7 +4,6 @@ ghost use Rattle.narc_packet.specs.PacketView.{udp_view};
 ghost use Rattle.narc_transport.specs.Written.{FitsUdp, FitsTcp};
 
 mod datagrams;
-mod options;
 mod segments;
 
 use crate::{Ends, TcpPart, TcpWithOffset, UdpPart};
