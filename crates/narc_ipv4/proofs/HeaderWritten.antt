@@ -1,10 +1,10 @@
 -- Which headers can be written, and what is written of them.
-use Rattle.std.proofs.Common.{◌≡◌, ℕ, zero, suc, lit<, ◌+◌, ◌*◌, ◌-◌, ◌/◌, ◌<◌, ◌≤◌, List, [], ◌++◌, length, replicate, refl, sym, ap, ◌∙◌, subst, arith, length-append}
+use Rattle.std.proofs.Common.{◌≡◌, ℕ, zero, suc, lit<, ◌+◌, ◌*◌, ◌-◌, ◌/◌, ◌≤◌, List, [], ◌++◌, length, replicate, refl, sym, ap, ◌∙◌, subst, arith, length-append}
 use Rattle.std.specs.Prelude.{min}
 use Rattle.std.proofs.Math.ListN.{length-replicate}
 use Rattle.narc_bits.specs.Octets.{IsOctets, big_endian}
 use Rattle.narc_bits.specs.Bits.{bits, bits_of_number, overlay}
-use Rattle.narc_bits.specs.InternetSum.{total, checksum}
+use Rattle.narc_bits.specs.InternetSum.{checksum}
 use Rattle.narc_bits.proofs.Numbers.{bits-append}
 use Rattle.narc_bits.proofs.Octets.{IsOctets-append, IsOctets-big_endian}
 use Rattle.narc_bits.proofs.Spelled.{bits-big_endian}

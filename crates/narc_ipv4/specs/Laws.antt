@@ -1,7 +1,6 @@
 -- What a header promises, each a term made of the laws of its rules.
 use Rattle.std.specs.Prelude.{◌<◌, ◌^◌, []}
 use Rattle.narc_packet.specs.declared.field.TheConstants as field
-use Rattle.narc_format.specs.Meaning.{Meaning}
 use Rattle.narc_format.specs.Laws.{Laws}
 use Rattle.narc_scalar.specs.Octets.{fixed_octets}
 use Rattle.narc_scalar.specs.OctetsLaws.{fixed_octets_laws}

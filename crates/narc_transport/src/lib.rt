@@ -21,9 +21,9 @@ pub use carried::{ForFirst, ForSecond};
 pub use context::Ends;
 pub use laws::{
     tcp_format_admits_what_fits, tcp_format_is_its_octets, tcp_format_is_refused_by_row,
-    tcp_format_is_sound, tcp_format_is_written_with_its_checksum,
-    udp_format_admits_what_fits, udp_format_is_its_octets,
-    udp_format_is_refused_by_row, udp_format_is_sound, udp_format_is_written_with_its_checksum,
+    tcp_format_is_sound, tcp_format_is_written_with_its_checksum, udp_format_admits_what_fits,
+    udp_format_is_its_octets, udp_format_is_refused_by_row, udp_format_is_sound,
+    udp_format_is_written_with_its_checksum,
 };
 pub use parts::{TcpPart, UdpPart};
 pub use tcp::{AreaBehind, TcpFormat, TcpPseudo};
