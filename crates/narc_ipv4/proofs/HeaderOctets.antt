@@ -9,7 +9,7 @@ use Rattle.narc_bits.specs.Bits.{bits, bits_of_number}
 use Rattle.narc_bits.specs.InternetSum.{IsGoodSum}
 use Rattle.narc_bits.proofs.Octets.{IsOctets-append, IsOctets-front, IsOctets-back, IsOctets-big_endian}
 use Rattle.narc_bits.proofs.Spelled.{bits_same, bits-big_endian, length-big_endian}
-use Rattle.narc_layout.proofs.NetworkOrder.{number_of_lt, number_of-big_endian, big_endian-number_of}
+use Rattle.narc_bits.proofs.NetworkOrder.{number_of_lt, number_of-big_endian, big_endian-number_of}
 use Rattle.narc_layout.proofs.ReadLayout.{IsRead}
 use Rattle.narc_layout.proofs.SameRows.{fault_same}
 use Rattle.narc_layout.proofs.ViewReads.{read_as}

@@ -6,7 +6,7 @@ use Rattle.narc_bits.specs.Bits.{bits, bits_of_number}
 use Rattle.narc_bits.proofs.Numbers.{length-bits}
 use Rattle.narc_bits.proofs.Octets.{IsOctets-take, IsOctets-drop, IsOctets-big_endian}
 use Rattle.narc_bits.proofs.Spelled.{bits_same, bits-big_endian}
-use Rattle.narc_layout.proofs.NetworkOrder.{number_of_lt, bits-number_of}
+use Rattle.narc_bits.proofs.NetworkOrder.{number_of_lt, bits-number_of}
 
 -- too few octets
 pub few : (k skip : ℕ) (x : List ℕ) → 1 ≤ k → (length (bits (drop skip x)) < 8 * k) ↔ (is_shorter x (skip + k) ≡ true)

@@ -4,7 +4,6 @@ pub mod FieldLayout
 pub mod Fronts
 pub mod InOrder
 pub mod Layouts
-pub mod NetworkOrder
 pub mod PlainRead
 pub mod ReadLayout
 pub mod RowSteps

@@ -16,7 +16,7 @@ use Rattle.narc_scalar.specs.ConstantLaws.{constant_laws}
 use Rattle.narc_compose.specs.Named.{named}
 use Rattle.narc_format.specs.declared.field.TheConstants.{LAST}
 use Rattle.narc_format.specs.Rows.{row, differs}
-use Rattle.narc_layout.proofs.NetworkOrder.{number_of-big_endian}
+use Rattle.narc_bits.proofs.NetworkOrder.{number_of-big_endian}
 use Rattle.narc_layout.proofs.Layouts.{IsLayout}
 use Rattle.narc_layout.proofs.ContextLayouts.{IsShaped, plain_layout}
 use Rattle.narc_layout.proofs.FieldLayout.{IsUnnamed, named_layout}

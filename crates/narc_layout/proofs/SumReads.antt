@@ -15,7 +15,7 @@ use Rattle.narc_format.specs.Meaning.{Meaning}
 use Rattle.narc_format.specs.Rows.{Row, row, first_failing}
 use Rattle.narc_sum.specs.Checked.{checked_or_none, checked_tail}
 use Rattle.narc_layout.specs.FirstFault.{IsFirstFault}
-use Rattle.narc_layout.proofs.NetworkOrder.{number_of_lt, bits-number_of}
+use Rattle.narc_bits.proofs.NetworkOrder.{number_of_lt, bits-number_of}
 use Rattle.narc_layout.proofs.Rows.{told, judged, first_failing-front, first_failing-back, first_failing-none}
 use Rattle.narc_layout.proofs.ReadLayout.{Spelled, IsRead, IsTailRead}
 use Rattle.narc_layout.proofs.RuleReads.{one_more, none_more, one_fails, fails_one, sealed_read, is_right, not_bad}

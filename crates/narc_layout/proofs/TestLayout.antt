@@ -13,7 +13,7 @@ use Rattle.narc_scalar.specs.Word.{word}
 use Rattle.narc_scalar.specs.WordLaws.{word_laws}
 use Rattle.narc_scalar.specs.Tested.{tested}
 use Rattle.narc_scalar.specs.TestedLaws.{tested_laws}
-use Rattle.narc_layout.proofs.NetworkOrder.{number_of-big_endian}
+use Rattle.narc_bits.proofs.NetworkOrder.{number_of-big_endian}
 use Rattle.narc_layout.proofs.Fronts.{few, long, is_number, below}
 use Rattle.narc_layout.proofs.Layouts.{front_octets}
 use Rattle.narc_layout.proofs.ContextLayouts.{IsShaped}

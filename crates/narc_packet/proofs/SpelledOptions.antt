@@ -10,7 +10,8 @@ use Rattle.narc_packet.specs.declared.limits.TheConstants.{MAX_AREA}
 use Rattle.narc_packet.specs.Options.{IpOptionView, IpNop, IpOther, TcpOptionView, ip_option, tcp_option, IsSackBlock, sack_block, sack_blocks_in, AreSpelledBlocks, IsIpOption, IsTcpOption, ip_options_in, tcp_options_in, tcp_option_of, AreIpOptions, AreTcpOptions}
 use Rattle.narc_packet.specs.WellFormed.{FitArea}
 use Rattle.narc_packet.proofs.OptionLists.{IsFound, each_found, ip_options_in-append, ip_options_in-cons, ip_options_in-other, AreIpOptions-few}
-use Rattle.narc_packet.proofs.TypedOptions.{HasOctets, sack_blocks_in-spelled, tcp_option-like, IsIpOption-like, ip_option_like-of, IsTcpOption-of}
+use Rattle.narc_packet.proofs.SpelledBlocks.{sack_blocks_in-spelled}
+use Rattle.narc_packet.proofs.TypedOptions.{HasOctets, tcp_option-like, IsIpOption-like, ip_option_like-of, IsTcpOption-of}
 
 AllByRecursion-append : {X : Type 0} (P : X → Type 0) (xs ys : List X) → AllByRecursion P xs → AllByRecursion P ys → AllByRecursion P (xs ++ ys)
 AllByRecursion-append P [] ys h k = k

@@ -1,84 +1,15 @@
 -- The options of TCP that have a value of their own, and the kinds and data that they are spelled with.
-use Rattle.std.proofs.Common.{◌≡◌, ℕ, zero, suc, ◌+◌, ◌-◌, ◌*◌, ◌/◌, ◌%◌, ◌<◌, ◌≤◌, ◌^◌, Bool, true, false, ◌&&◌, ◌||◌, nat_eq, List, [], ◌∷◌, ◌++◌, length, take, drop, get_or, refl, sym, ap, ◌∙◌, subst, arith, if◌then◌else◌}
+use Rattle.std.proofs.Common.{◌≡◌, ℕ, zero, suc, ◌+◌, ◌*◌, ◌%◌, ◌≤◌, Bool, true, false, ◌&&◌, ◌||◌, nat_eq, List, [], ◌∷◌, ◌++◌, length, take, drop, get_or, refl, sym, ap, ◌∙◌, subst, arith, if◌then◌else◌}
 use Rattle.std.specs.Prelude.{flat_map}
 use Rattle.std.specs.List.{AllByRecursion}
-use Rattle.std.proofs.Math.Seq.{take-length}
 use Rattle.std.proofs.lemmas.Bool.Decides.{nat_tests}
 use Rattle.narc_bits.specs.Octets.{IsOctets, big_endian, number_of}
 use Rattle.narc_bits.proofs.Octets.{IsOctets-append, IsOctets-big_endian}
-use Rattle.narc_packet.specs.declared.blocks.SackBlock.{SackBlock}
+use Rattle.narc_bits.proofs.NetworkOrder.{number_of-big_endian, big_endian-number_of}
 use Rattle.narc_packet.specs.declared.option_type.TcpOptionType.{TcpOptionType}
 use Rattle.narc_packet.specs.declared.option_type.TcpOptionType.TheVariants.{SegmentSize, WindowScale, SackPermitted, Sack, Timestamps, Untyped}
-use Rattle.narc_packet.specs.Options.{IpOptionView, IpNop, IpOther, TcpOptionView, TcpNop, TcpMss, TcpScale, TcpSackOk, TcpSack, TcpTimes, TcpOther, IsSackBlock, sack_block, sack_blocks_in, tcp_option_type, typed_option, tcp_option_of, ip_option, tcp_option, IsIpOption, IsTcpOption}
-
--- numbers, and the octets that they are
-pub big_endian-two : (high low : ℕ) → high < 256 → low < 256 → big_endian 2 (number_of (high ∷ low ∷ [])) ≡ high ∷ low ∷ []
-big_endian-two high low h l =
-    let n = number_of (high ∷ low ∷ []) in
-    let front : n / 256 ^ 1 % 256 ≡ high = omega arith in
-    let back : n % 256 ≡ low = omega arith in
-    ap (λ k. k ∷ n % 256 ∷ []) front ∙ ap (λ k. high ∷ k ∷ []) back
-
-pub big_endian-four : (a b c d : ℕ) → a < 256 → b < 256 → c < 256 → d < 256 → big_endian 4 (number_of (a ∷ b ∷ c ∷ d ∷ [])) ≡ a ∷ b ∷ c ∷ d ∷ []
-big_endian-four a b c d ha hb hc hd =
-    let n = number_of (a ∷ b ∷ c ∷ d ∷ []) in
-    let first : n / 256 ^ 3 % 256 ≡ a = omega arith in
-    let second : n / 256 ^ 2 % 256 ≡ b = omega arith in
-    let third : n / 256 ^ 1 % 256 ≡ c = omega arith in
-    let fourth : n % 256 ≡ d = omega arith in
-    ap (λ k. k ∷ n / 256 ^ 2 % 256 ∷ n / 256 ^ 1 % 256 ∷ n % 256 ∷ []) first ∙ ap (λ k. a ∷ k ∷ n / 256 ^ 1 % 256 ∷ n % 256 ∷ []) second
-    ∙ ap (λ k. a ∷ b ∷ k ∷ n % 256 ∷ []) third ∙ ap (λ k. a ∷ b ∷ c ∷ k ∷ []) fourth
-
-pub number_of-two : (n : ℕ) → n < 2 ^ 16 → number_of (big_endian 2 n) ≡ n
-number_of-two n h = omega (arith, h)
-
-pub number_of-four : (n : ℕ) → n < 2 ^ 32 → number_of (big_endian 4 n) ≡ n
-number_of-four n h = omega (arith, h)
-
--- the octets of a block
-block-octets : (a b c d e f g h : ℕ) → IsOctets (a ∷ b ∷ c ∷ d ∷ e ∷ f ∷ g ∷ h ∷ [])
-    → sack_block (record { left = number_of (a ∷ b ∷ c ∷ d ∷ []); right = number_of (e ∷ f ∷ g ∷ h ∷ []) }) ≡ a ∷ b ∷ c ∷ d ∷ e ∷ f ∷ g ∷ h ∷ []
-block-octets a b c d e f g h o =
-    ap (λ l. l ++ big_endian 4 (number_of (e ∷ f ∷ g ∷ h ∷ []))) (big_endian-four a b c d o.0 o.1.0 o.1.1.0 o.1.1.1.0)
-    ∙ ap (λ l. a ∷ b ∷ c ∷ d ∷ l) (big_endian-four e f g h o.1.1.1.1.0 o.1.1.1.1.1.0 o.1.1.1.1.1.1.0 o.1.1.1.1.1.1.1.0)
-
--- the whole blocks in octets, spelled again
-pub blocks_again : (l : List ℕ) → IsOctets l → length l % 8 ≡ 0 → flat_map sack_block (sack_blocks_in l) ≡ l
-blocks_again [] o whole = refl
-blocks_again (a ∷ b ∷ c ∷ d ∷ e ∷ f ∷ g ∷ h ∷ l) o whole =
-    ap (λ k. k ++ flat_map sack_block (sack_blocks_in l)) (block-octets a b c d e f g h (o.0, (o.1.0, (o.1.1.0, (o.1.1.1.0, (o.1.1.1.1.0, (o.1.1.1.1.1.0, (o.1.1.1.1.1.1.0, (o.1.1.1.1.1.1.1.0, tt)))))))))
-    ∙ ap (λ k. a ∷ b ∷ c ∷ d ∷ e ∷ f ∷ g ∷ h ∷ k) (blocks_again l o.1.1.1.1.1.1.1.1 (omega (arith, whole)))
-blocks_again l o whole = absurd (omega (arith, whole))
-
--- the octets of the whole blocks in front
-pub blocks_whole : (l : List ℕ) → IsOctets l → take (length l - length l % 8) l ≡ flat_map sack_block (sack_blocks_in l)
-blocks_whole (a ∷ b ∷ c ∷ d ∷ e ∷ f ∷ g ∷ h ∷ l) o =
-    ap (λ n. take n (a ∷ b ∷ c ∷ d ∷ e ∷ f ∷ g ∷ h ∷ l)) {y = suc (suc (suc (suc (suc (suc (suc (suc (length l - length l % 8))))))))} (omega arith)
-    ∙ ap (λ k. a ∷ b ∷ c ∷ d ∷ e ∷ f ∷ g ∷ h ∷ k) (blocks_whole l o.1.1.1.1.1.1.1.1)
-    ∙ ap (λ k. k ++ flat_map sack_block (sack_blocks_in l)) (sym (block-octets a b c d e f g h (o.0, (o.1.0, (o.1.1.0, (o.1.1.1.0, (o.1.1.1.1.0, (o.1.1.1.1.1.0, (o.1.1.1.1.1.1.0, (o.1.1.1.1.1.1.1.0, tt))))))))))
-blocks_whole l o = refl
-
--- blocks, read from the octets that spell them
-pub sack_blocks_in-spelled : (blocks : List SackBlock) → AllByRecursion IsSackBlock blocks → sack_blocks_in (flat_map sack_block blocks) ≡ blocks
-sack_blocks_in-spelled [] h = refl
-sack_blocks_in-spelled (block ∷ blocks) h =
-    ap (λ n. record { left = n; right = number_of (big_endian 4 block.right) } ∷ sack_blocks_in (flat_map sack_block blocks)) (number_of-four block.left h.0.0)
-    ∙ ap (λ n. record { left = block.left; right = n } ∷ sack_blocks_in (flat_map sack_block blocks)) (number_of-four block.right h.0.1)
-    ∙ ap (λ k. block ∷ k) (sack_blocks_in-spelled blocks h.1)
-
-pub length-blocks : (blocks : List SackBlock) → length (flat_map sack_block blocks) ≡ 8 * length blocks
-length-blocks [] = refl
-length-blocks (block ∷ blocks) = omega (arith, length-blocks blocks)
-
-pub IsOctets-blocks : (blocks : List SackBlock) → IsOctets (flat_map sack_block blocks)
-IsOctets-blocks [] = tt
-IsOctets-blocks (block ∷ blocks) =
-    IsOctets-append (sack_block block) (flat_map sack_block blocks) (IsOctets-append (big_endian 4 block.left) (big_endian 4 block.right) (IsOctets-big_endian 4 block.left) (IsOctets-big_endian 4 block.right)) (IsOctets-blocks blocks)
-
-pub each_block : (l : List ℕ) → IsOctets l → AllByRecursion IsSackBlock (sack_blocks_in l)
-each_block (a ∷ b ∷ c ∷ d ∷ e ∷ f ∷ g ∷ h ∷ l) o =
-    ((omega (arith, o.0, o.1.0, o.1.1.0, o.1.1.1.0), omega (arith, o.1.1.1.1.0, o.1.1.1.1.1.0, o.1.1.1.1.1.1.0, o.1.1.1.1.1.1.1.0)), each_block l o.1.1.1.1.1.1.1.1)
-each_block l o = tt
+use Rattle.narc_packet.specs.Options.{IpOptionView, IpNop, IpOther, TcpOptionView, TcpNop, TcpMss, TcpScale, TcpSackOk, TcpSack, TcpTimes, TcpOther, sack_block, sack_blocks_in, tcp_option_type, typed_option, tcp_option_of, ip_option, tcp_option, IsIpOption, IsTcpOption}
+use Rattle.narc_packet.proofs.SpelledBlocks.{block-octets, blocks_again, sack_blocks_in-spelled, length-blocks, IsOctets-blocks, each_block}
 
 -- the kind and the number of octets of data that a type has
 abbrev pub HasType : TcpOptionType → (kind count : ℕ) → Type 0
@@ -148,14 +79,14 @@ blocks_type octets data_octets e h =
 -- an option of TCP, read from its kind and data
 pub tcp_option_of-like : (option : TcpOptionView) → IsTcpOption option → tcp_option_of (ip_option_like option) ≡ option
 tcp_option_of-like TcpNop h = refl
-tcp_option_of-like (TcpMss size) h = ap TcpMss (number_of-two size h)
+tcp_option_of-like (TcpMss size) h = ap TcpMss (number_of-big_endian 2 size h)
 tcp_option_of-like (TcpScale shift) h = ap TcpScale (omega arith)
 tcp_option_of-like TcpSackOk h = refl
 tcp_option_of-like (TcpSack blocks) h =
     let octets = flat_map sack_block blocks in
     let is : tcp_option_type 5 (length octets) ≡ Sack = ap (tcp_option_type 5) (length-blocks blocks) ∙ sack_type (length blocks) h.0 h.1 in
     ap (λ t. typed_option t 5 octets) is ∙ ap TcpSack (sack_blocks_in-spelled blocks h.2)
-tcp_option_of-like (TcpTimes value echo) h = ap (λ n. TcpTimes n (number_of (big_endian 4 echo))) (number_of-four value h.0) ∙ ap (TcpTimes value) (number_of-four echo h.1)
+tcp_option_of-like (TcpTimes value echo) h = ap (λ n. TcpTimes n (number_of (big_endian 4 echo))) (number_of-big_endian 4 value h.0) ∙ ap (TcpTimes value) (number_of-big_endian 4 echo h.1)
 tcp_option_of-like (TcpOther kind octets) h = ap (λ t. typed_option t kind octets) h.1
 
 pub IsIpOption-like : (option : TcpOptionView) → IsTcpOption option → IsIpOption (ip_option_like option)
@@ -169,7 +100,7 @@ IsIpOption-like (TcpOther kind octets) h = h.0
 
 -- the kind and data that an option of TCP was read from
 typed_like : (t : TcpOptionType) (kind : ℕ) (octets : List ℕ) → HasType t kind (length octets) → IsOctets octets → ip_option_like (typed_option t kind octets) ≡ IpOther kind octets
-typed_like SegmentSize kind (a ∷ b ∷ []) h o = ap (λ k. IpOther k (big_endian 2 (number_of (a ∷ b ∷ [])))) (sym h.0) ∙ ap (IpOther kind) (big_endian-two a b o.0 o.1.0)
+typed_like SegmentSize kind (a ∷ b ∷ []) h o = ap (λ k. IpOther k (big_endian 2 (number_of (a ∷ b ∷ [])))) (sym h.0) ∙ ap (IpOther kind) (big_endian-number_of (a ∷ b ∷ []) o)
 typed_like SegmentSize kind octets h o = absurd (omega (arith, h.1))
 typed_like WindowScale kind (a ∷ []) h o = ap (λ k. IpOther k (number_of (a ∷ []) ∷ [])) (sym h.0) ∙ ap (λ n. IpOther kind (n ∷ [])) {y = a} (omega arith)
 typed_like WindowScale kind octets h o = absurd (omega (arith, h.1))
@@ -177,7 +108,7 @@ typed_like SackPermitted kind [] h o = ap (λ k. IpOther k []) (sym h.0)
 typed_like SackPermitted kind (a ∷ octets) h o = absurd (omega (arith, h.1))
 typed_like Sack kind octets h o = ap (λ k. IpOther k (flat_map sack_block (sack_blocks_in octets))) (sym h.0) ∙ ap (IpOther kind) (blocks_again octets o h.1)
 typed_like Timestamps kind (a ∷ b ∷ c ∷ d ∷ e ∷ f ∷ g ∷ i ∷ []) h o =
-    ap (λ k. IpOther k (big_endian 4 (number_of (a ∷ b ∷ c ∷ d ∷ [])) ++ big_endian 4 (number_of (e ∷ f ∷ g ∷ i ∷ [])))) (sym h.0) ∙ ap (IpOther kind) (block-octets a b c d e f g i o)
+    ap (λ k. IpOther k (big_endian 4 (number_of (a ∷ b ∷ c ∷ d ∷ [])) ++ big_endian 4 (number_of (e ∷ f ∷ g ∷ i ∷ [])))) (sym h.0) ∙ ap (IpOther kind) (block-octets a b c d e f g i [] o)
 typed_like Timestamps kind octets h o = absurd (omega (arith, h.1))
 typed_like Untyped kind octets h o = refl
 
@@ -216,17 +147,6 @@ pub times_in : (octets : List ℕ) → length octets ≡ 8
     × (number_of (drop 4 octets) ≡ get_or octets 4 0 * 16777216 + get_or octets 5 0 * 65536 + get_or octets 6 0 * 256 + get_or octets 7 0)
 times_in (a ∷ b ∷ c ∷ d ∷ e ∷ f ∷ g ∷ h ∷ []) size = (omega arith, omega arith)
 times_in octets size = absurd (omega (arith, size))
-
--- the first of at least eight octets, as the code reads it
-pub sack_blocks_in-first : (octets : List ℕ) (left right : ℕ) → 8 ≤ length octets
-    → left ≡ get_or octets 0 0 * 16777216 + get_or octets 1 0 * 65536 + get_or octets 2 0 * 256 + get_or octets 3 0
-    → right ≡ get_or octets 4 0 * 16777216 + get_or octets 5 0 * 65536 + get_or octets 6 0 * 256 + get_or octets 7 0
-    → sack_blocks_in octets ≡ record { left = left; right = right } ∷ sack_blocks_in (take (length octets - 8) (drop 8 octets))
-sack_blocks_in-first (a ∷ b ∷ c ∷ d ∷ e ∷ f ∷ g ∷ h ∷ l) left right size p q =
-    ap (λ n. record { left = n; right = number_of (e ∷ f ∷ g ∷ h ∷ []) } ∷ sack_blocks_in l) {y = left} (omega (arith, p))
-    ∙ ap (λ n. record { left = left; right = n } ∷ sack_blocks_in l) {y = right} (omega (arith, q))
-    ∙ ap (λ k. record { left = left; right = right } ∷ sack_blocks_in k) (sym (ap (λ n. take n l) {y = length l} (omega arith) ∙ take-length l))
-sack_blocks_in-first octets left right size p q = absurd (omega (arith, size))
 
 -- options are spelled in octets
 pub IsOctets-ip_option : (option : IpOptionView) → IsIpOption option → IsOctets (ip_option option)

@@ -52,8 +52,8 @@ fn split_first_block(spelled: &[u8]) -> Option<(SackBlock, &[u8])>
     Some((block, rest))
 }
 
-/// The blocks of a selective acknowledgment, one behind the other. Two are equal where their octets are.
-#[derive(Clone, Copy, Debug, Drop, PartialEq, Eq)]
+/// The blocks of a selective acknowledgment, one behind the other.
+#[derive(Clone, Copy, Debug, Drop)]
 pub struct SackBlocks<'a> {
     /// The octets that spell the blocks, 8 for each: one to four in an option.
     pub spelled: &'a [u8],
@@ -91,7 +91,7 @@ impl<'a> SackBlocks<'a> {
 }
 
 /// The blocks of a selective acknowledgment, seen as the list of those that are left.
-#[derive(Debug, Drop)]
+#[derive(Drop)]
 pub struct SackBlockIter<'a> {
     left: &'a [u8],
 }

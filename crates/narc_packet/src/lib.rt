@@ -4,6 +4,7 @@
 mod blocks;
 pub mod field;
 mod limits;
+mod numbers;
 mod option_list;
 mod option_type;
 mod options;
@@ -13,6 +14,7 @@ mod well_formed;
 
 pub use blocks::{SackBlock, SackBlockIter, SackBlockList, SackBlocks};
 pub use limits::{MAX_AREA, MAX_BLOCKS, MAX_LENGTH};
+pub use numbers::{ARP_TYPE, IPV4_TYPE, TCP_PROTOCOL, UDP_PROTOCOL};
 pub use option_list::{IpOptionList, OptionError, TcpOptionList};
 pub use option_type::TcpOptionType;
 pub use options::{IpOption, IpOptionIter, IpOptions, TcpOption, TcpOptionIter, TcpOptions};

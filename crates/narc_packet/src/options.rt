@@ -21,7 +21,7 @@ pub enum IpOption<'a> {
 
 /// An option of a TCP header (RFC 793, section 3.1): no operation, one of those that have a value of their own, or any
 /// other with its data.
-#[derive(Clone, Copy, Debug, Default, Drop, PartialEq, Eq)]
+#[derive(Clone, Copy, Debug, Default, Drop)]
 pub enum TcpOption<'a> {
     #[default]
     Nop,
@@ -131,8 +131,8 @@ fn spell_same_options(a: &[u8], b: &[u8]) -> bool
     split_first_option(right).is_none()
 }
 
-/// The options of an IPv4 header, one behind the other. Two are equal where their octets are.
-#[derive(Clone, Copy, Debug, Drop, PartialEq, Eq)]
+/// The options of an IPv4 header, one behind the other.
+#[derive(Clone, Copy, Debug, Drop)]
 pub struct IpOptions<'a> {
     /// The octets that spell the options, without an end of the list: at most 40 in a packet.
     pub spelled: &'a [u8],
@@ -179,8 +179,8 @@ impl<'a> IpOptions<'a> {
     }
 }
 
-/// The options of a TCP header, one behind the other. Two are equal where their octets are.
-#[derive(Clone, Copy, Debug, Drop, PartialEq, Eq)]
+/// The options of a TCP header, one behind the other.
+#[derive(Clone, Copy, Debug, Drop)]
 pub struct TcpOptions<'a> {
     /// The octets that spell the options, without an end of the list: at most 40 in a packet.
     pub spelled: &'a [u8],
@@ -230,7 +230,7 @@ impl<'a> TcpOptions<'a> {
 }
 
 /// The options of an IPv4 header, seen as the list of those that are left.
-#[derive(Debug, Drop)]
+#[derive(Drop)]
 pub struct IpOptionIter<'a> {
     left: &'a [u8],
 }
@@ -262,7 +262,7 @@ impl<'a> Iterator for IpOptionIter<'a> {
 }
 
 /// The options of a TCP header, seen as the list of those that are left.
-#[derive(Debug, Drop)]
+#[derive(Drop)]
 pub struct TcpOptionIter<'a> {
     left: &'a [u8],
 }

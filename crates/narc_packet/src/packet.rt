@@ -2,7 +2,7 @@
 use crate::options::{IpOptions, TcpOptions};
 
 /// The packet of an Ethernet II frame (RFC 894): two hardware addresses, and what the frame carries.
-#[derive(Debug, Drop, PartialEq, Eq)]
+#[derive(Debug, Drop)]
 pub struct Packet<'a> {
     /// The destination's hardware address.
     pub dst: [u8; 6],
@@ -12,7 +12,7 @@ pub struct Packet<'a> {
 }
 
 /// What an Ethernet frame carries.
-#[derive(Debug, Drop, PartialEq, Eq)]
+#[derive(Debug, Drop)]
 pub enum EthBody<'a> {
     /// An ARP packet for Ethernet and IPv4.
     Arp(Arp),
@@ -34,7 +34,7 @@ pub struct Arp {
 }
 
 /// An IPv4 packet (RFC 791), and what it carries.
-#[derive(Clone, Copy, Debug, Drop, PartialEq, Eq)]
+#[derive(Clone, Copy, Debug, Drop)]
 pub struct Ipv4<'a> {
     pub tos: u8,
     pub id: u16,
@@ -52,7 +52,7 @@ pub struct Ipv4<'a> {
 }
 
 /// What an IPv4 packet carries.
-#[derive(Clone, Copy, Debug, Drop, PartialEq, Eq)]
+#[derive(Clone, Copy, Debug, Drop)]
 pub enum IpBody<'a> {
     Udp(Udp<'a>),
     Tcp(Tcp<'a>),
@@ -69,7 +69,7 @@ pub struct Udp<'a> {
 }
 
 /// A TCP segment (RFC 793). The flags are 32 URG, 16 ACK, 8 PSH, 4 RST, 2 SYN, 1 FIN.
-#[derive(Clone, Copy, Debug, Drop, PartialEq, Eq)]
+#[derive(Clone, Copy, Debug, Drop)]
 pub struct Tcp<'a> {
     pub sport: u16,
     pub dport: u16,

@@ -7,19 +7,11 @@ ghost use Rattle.narc_packet.specs.Ipv4.{IsIpv4InRange, MayHaveBody, is_fragment
 ghost use Rattle.narc_packet.specs.WellFormed.{FitArea, IsWellFormedIpBody, smallest_length, IsWellFormedIpv4, IsWellFormedEthBody, IsWellFormed, SpellsIpBody, SpellsIpv4, SpellsEthBody, SpellsOptions};
 
 use crate::limits::{MAX_AREA, MAX_LENGTH};
+use crate::numbers::{ARP_TYPE, IPV4_TYPE, TCP_PROTOCOL, UDP_PROTOCOL};
 use crate::options::{IpOptions, TcpOptions, are_options};
 use crate::packet::{EthBody, IpBody, Ipv4, Packet, Tcp};
 use crate::ranges::{known_arp, known_ip, known_mac, known_udp};
 use narc_bits::{MAX_FRAME, known_octets};
-
-/// The Ethernet types and the protocols whose data is read.
-const ARP_TYPE: u16 = 0x0806;
-
-const IPV4_TYPE: u16 = 0x0800;
-
-const TCP: u8 = 6;
-
-const UDP: u8 = 17;
 
 /// The most octets of a frame behind its header.
 const PAYLOAD: usize = MAX_FRAME - 14;
@@ -75,7 +67,8 @@ fn may_have_body(ip: &Ipv4<'_>) -> bool
     let is_fragment = ip.mf || ip.offset != 0;
     match &ip.body {
         IpBody::Udp(_) | IpBody::Tcp(_) => !is_fragment,
-        IpBody::Raw { protocol, .. } => is_fragment || (*protocol != TCP && *protocol != UDP),
+        IpBody::Raw { protocol, .. } => is_fragment
+            || (*protocol != TCP_PROTOCOL && *protocol != UDP_PROTOCOL),
     }
 }
 

@@ -18,7 +18,7 @@ use Rattle.narc_packet.specs.declared.packet.Packet.{Packet}
 use Rattle.narc_eth.specs.EthernetHeader.{Header, IsHeaderInRange, header_octets}
 use Rattle.narc_eth.proofs.HeaderLayout.{header_rows, eth_head_layout}
 use Rattle.narc_eth.proofs.ArpLayout.{packet_rows, arp_layout}
-use Rattle.narc_layout.proofs.NetworkOrder.{number_of-big_endian}
+use Rattle.narc_bits.proofs.NetworkOrder.{number_of-big_endian}
 use Rattle.narc_layout.proofs.PlainRead.{plain_read}
 use Rattle.narc_layout.proofs.ReadLayout.{Parts, IsTailRead}
 use Rattle.narc_layout.proofs.RowSteps.{rows_same, no_more_rows}

@@ -6,7 +6,7 @@ use Rattle.narc_bits.specs.Octets.{number_at}
 use Rattle.narc_packet.specs.PacketView.{Ipv4View}
 use Rattle.narc_packet.specs.Ipv4.{IsIpv4InRange, protocol_of, is_fragment, fragment_word, ipv4_header}
 use Rattle.narc_packet.specs.Refusal.{header_length, total_length, is_fragment_in}
-use Rattle.narc_layout.proofs.NetworkOrder.{number_of-big_endian}
+use Rattle.narc_bits.proofs.NetworkOrder.{number_of-big_endian}
 use Rattle.narc_ipv4.specs.Header.{fragment_word_of}
 use Rattle.narc_ipv4.specs.HeaderOctets.{packet_of, IsHeader}
 use Rattle.narc_ipv4.specs.declared.as_header.IpHeader.{IpHeader}

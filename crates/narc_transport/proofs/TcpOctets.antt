@@ -6,7 +6,7 @@ use Rattle.narc_bits.specs.Octets.{IsOctets, number_of, big_endian}
 use Rattle.narc_bits.specs.InternetSum.{IsGoodSum, is_good_total}
 use Rattle.narc_bits.proofs.Octets.{IsOctets-front, IsOctets-back}
 use Rattle.narc_bits.proofs.Spelled.{length-big_endian}
-use Rattle.narc_layout.proofs.NetworkOrder.{number_of_lt, big_endian-number_of}
+use Rattle.narc_bits.proofs.NetworkOrder.{number_of_lt, big_endian-number_of}
 use Rattle.narc_layout.proofs.Sizes.{pair_eq}
 use Rattle.narc_layout.proofs.SumReads.{sum_of_octets, good_behind}
 use Rattle.narc_options.specs.OptionOctets.{IsAreaOf}

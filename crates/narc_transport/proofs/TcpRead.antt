@@ -6,7 +6,7 @@ use Rattle.narc_format.specs.Rows.{Row, row}
 use Rattle.narc_packet.specs.declared.field.TheConstants as field
 use Rattle.narc_compose.specs.Both.{both}
 use Rattle.narc_compose.specs.Gap.{gapped}
-use Rattle.narc_layout.proofs.NetworkOrder.{number_of-big_endian}
+use Rattle.narc_bits.proofs.NetworkOrder.{number_of-big_endian}
 use Rattle.narc_layout.proofs.FieldLayout.{named_layout}
 use Rattle.narc_layout.proofs.TestLayout.{shape_word, unnamed_word, shape_tested, unnamed_tested}
 use Rattle.narc_layout.proofs.ReadLayout.{Parts, IsRead, IsTailRead, read_layout}

@@ -8,7 +8,7 @@ use Rattle.narc_bits.specs.Bits.{bits}
 use Rattle.narc_bits.specs.InternetSum.{IsGoodSum, is_good_total}
 use Rattle.narc_bits.proofs.Octets.{IsOctets-front, IsOctets-back}
 use Rattle.narc_bits.proofs.Spelled.{length-big_endian}
-use Rattle.narc_layout.proofs.NetworkOrder.{number_of_lt, number_of-big_endian, big_endian-number_of}
+use Rattle.narc_bits.proofs.NetworkOrder.{number_of_lt, number_of-big_endian, big_endian-number_of}
 use Rattle.narc_layout.proofs.SumReads.{has_no_sum, sum_of_octets, word_in_hole, good_behind, or_true, or_cases}
 use Rattle.narc_packet.specs.declared.packet.Udp.{Udp}
 use Rattle.narc_packet.specs.PacketView.{UdpView, udp_view}

@@ -1,4 +1,4 @@
-use Rattle.narc_packet.proofs.TypedOptions.{sack_blocks_in-first}
+use Rattle.narc_packet.proofs.SpelledBlocks.{sack_blocks_in-first}
 use Rattle.narc_packet.proofs.blocks.split_first_block.Goals as goal
 
 pub returns-clause-first : goal.returns-clause-first

@@ -1,5 +1,5 @@
 -- no name stands behind the last of the table
-use Rattle.std.proofs.Common.{◌≡◌, ◌≤◌, ℕ, Option, List, codes, unwrap_or, length, ap, sym, arith}
+use Rattle.std.proofs.Common.{◌≤◌, ℕ, Option, List, codes, unwrap_or, length, ap, sym, arith}
 use Rattle.std.proofs.lemmas.Option.{slice_get_past}
 use Rattle.narc_packet.specs.Field.{field_names}
 use Rattle.narc_packet.proofs.field.name.Goals as goal

@@ -1,7 +1,7 @@
 use Rattle.std.proofs.Common.{◌≡◌, [], ◌∷◌, ◌++◌, length, sym, ap, ◌∙◌, subst, arith, rules}
 use Rattle.std.specs.Prelude.{OnOk}
 use Rattle.narc_packet.specs.Options.{IsSackBlock, sack_block, sack_blocks_in, AreSpelledBlocks}
-use Rattle.narc_packet.proofs.TypedOptions.{length-blocks}
+use Rattle.narc_packet.proofs.SpelledBlocks.{length-blocks}
 use Rattle.narc_packet.proofs.SpelledOptions.{sack_blocks_in-last, AreSpelledBlocks-last}
 use Rattle.narc_packet.proofs.blocks.SackBlockList.push.Goals as goal
 

@@ -1,4 +1,4 @@
-use Rattle.narc_packet.proofs.TypedOptions.{blocks_whole}
+use Rattle.narc_packet.proofs.SpelledBlocks.{blocks_whole}
 use Rattle.narc_packet.proofs.blocks.SackBlocks.whole.Goals as goal
 
 pub returns : goal.returns
