@@ -4,8 +4,6 @@
 mod arp;
 mod ethernet;
 mod part;
-#[cfg(test)]
-mod tests;
 
 pub use arp::{
     ArpFormat, AsArp, arp_format_is_its_octets, arp_format_is_refused_by_row, arp_format_is_sound,

@@ -16,7 +16,8 @@ use Rattle.narc_options.specs.Option.{option_region}
 use Rattle.narc_options.proofs.AreaSound.{region_chosen}
 use Rattle.narc_ipv4.specs.declared.as_header.IpHeader.{IpHeader}
 use Rattle.narc_ipv4.specs.Header.{is_version, is_total_length, header_length_of, area_length_of, RawBefore, RawHeader, header_of, raw_header, ip_before, ip_fields, ip_summed, ip_head}
-use Rattle.narc_ipv4.proofs.HeaderSound.{IsFrontInRange, front_ranges, front_admits, fields_size}
+use Rattle.narc_ipv4.proofs.BeforeSound.{IsFrontInRange, front_ranges, front_admits}
+use Rattle.narc_ipv4.proofs.HeaderSound.{fields_size}
 
 pub at_least : (n m : ℕ) → m ≤ n → IsTrue (not (nat_lt n m))
 at_least n m h = ap not (le-ltb n m h)

@@ -1,15 +1,15 @@
 -- The octets that stand for a header are those of it.
-use Rattle.std.proofs.Common.{◌≡◌, ℕ, ◌+◌, ◌*◌, ◌-◌, ◌/◌, ◌%◌, ◌^◌, ◌<◌, ◌↔◌, Bool, true, false, not, List, [], ◌∷◌, ◌++◌, length, nat_eq, IsTrue, refl, sym, ap, ◌∙◌, subst, arith, length-append, append-nil, if◌then◌else◌}
+use Rattle.std.proofs.Common.{◌≡◌, ℕ, ◌+◌, ◌*◌, ◌-◌, ◌/◌, ◌%◌, ◌^◌, ◌<◌, ◌↔◌, Bool, List, [], ◌∷◌, ◌++◌, length, nat_eq, IsTrue, refl, sym, ap, ◌∙◌, subst, arith, length-append}
 use Rattle.std.specs.Prelude.{flat_map}
 use Rattle.std.specs.Borrow.{Bor}
 use Rattle.std.proofs.Math.Nat.{mod-eq_of_lt}
 use Rattle.std.proofs.lemmas.Bool.{eqb-true}
 use Rattle.narc_bits.specs.Octets.{IsOctets, number_of, number_at, big_endian}
-use Rattle.narc_bits.specs.Bits.{bits, bits_of_number}
+use Rattle.narc_bits.specs.Bits.{bits}
 use Rattle.narc_bits.specs.InternetSum.{IsGoodSum}
 use Rattle.narc_bits.proofs.Octets.{IsOctets-append, IsOctets-front, IsOctets-back, IsOctets-big_endian}
-use Rattle.narc_bits.proofs.Spelled.{bits_same, bits-big_endian, length-big_endian}
-use Rattle.narc_bits.proofs.NetworkOrder.{number_of_lt, number_of-big_endian, big_endian-number_of}
+use Rattle.narc_bits.proofs.Spelled.{length-big_endian}
+use Rattle.narc_bits.proofs.NetworkOrder.{number_of_lt, big_endian-number_of}
 use Rattle.narc_layout.proofs.ReadLayout.{IsRead}
 use Rattle.narc_layout.proofs.SameRows.{fault_same}
 use Rattle.narc_layout.proofs.ViewReads.{read_as}
@@ -23,56 +23,16 @@ use Rattle.narc_packet.specs.Ranges.{IsIp}
 use Rattle.narc_packet.specs.Ipv4.{ipv4_header, fragment_word, IsIpv4InRange}
 use Rattle.narc_options.proofs.Areas.{ip_area_of, area_of_ip}
 use Rattle.narc_ipv4.specs.declared.as_header.IpHeader.{IpHeader}
-use Rattle.narc_ipv4.specs.Header.{is_version, is_header_length, is_flags, header_length_of, area_length_of, RawBefore, RawHeader, fragment_word_of, header_of, raw_header, ip_head}
+use Rattle.narc_ipv4.specs.Header.{is_version, header_length_of, area_length_of, RawHeader, fragment_word_of, header_of, raw_header, ip_head}
 use Rattle.narc_ipv4.specs.Laws.{ip_head_laws}
 use Rattle.narc_ipv4.specs.HeaderOctets.{packet_of, IsHeader, FitsHeader, IsItsOctets, IsRefusedByRow}
-use Rattle.narc_ipv4.proofs.HeaderSound.{IsFrontInRange, fragment_back, length_five, head_sound}
+use Rattle.narc_ipv4.proofs.HeaderSound.{length_five, head_sound}
 use Rattle.narc_ipv4.proofs.HeaderChosen.{at_least, total_least, total_most, total_fits, head_size}
-use Rattle.narc_ipv4.proofs.BeforeRead.{IsBefore}
 use Rattle.narc_ipv4.proofs.HeaderRead.{IsBehind, IsFields, IsComposed, composed_rows, composed_read}
 use Rattle.narc_ipv4.proofs.HeaderRows.{rows_are}
-
-octet_is : (v : ℕ) → v < 256 → big_endian 1 v ≡ v ∷ []
-unfolding bits
-octet_is v h = bits_same (big_endian 1 v) (v ∷ []) (IsOctets-big_endian 1 v) (h, tt) (bits-big_endian 1 v ∙ sym (append-nil (bits_of_number 8 v)))
-
--- the octets before the checksum
-abbrev pub before_octets : RawBefore → List ℕ
-before_octets v =
-    big_endian 1 v.0.0.0 ++ big_endian 1 v.0.0.1 ++ big_endian 2 v.0.1
-    ++ (big_endian 2 v.1.0.0 ++ big_endian 2 v.1.0.1 ++ (big_endian 1 v.1.1.0 ++ big_endian 1 v.1.1.1))
-
-two : (x y a b : List ℕ) → x ≡ a → y ≡ b → x ++ y ≡ a ++ b
-two x y a b h k = ap (λ l. l ++ y) h ∙ ap (λ l. a ++ l) k
-
-before_is : (n : ℕ) (v : RawBefore) (o : List ℕ) → IsBefore n v o → o ≡ before_octets v
-before_is n v o b =
-    let l = b.first in
-    let f = l.first in
-    let m = b.second in
-    b.joined ∙ two _ _ _ _
-    (l.joined ∙ two _ _ _ _ (f.joined ∙ two _ _ _ _ f.first.0.1 f.second.1) l.second.1)
-    (m.joined ∙ two _ _ _ _ (m.first.joined ∙ two _ _ _ _ m.first.first.1 m.first.second.1) (m.second.joined ∙ two _ _ _ _ m.second.first.1 m.second.second.1))
-
--- the ranges of its numbers
-before_ranges : (n : ℕ) (v : RawBefore) (o : List ℕ) → IsBefore n v o → IsFrontInRange n v
-before_ranges n v o b =
-    let l = b.first in
-    let f = l.first in
-    let m = b.second in
-    record {
-      first = f.first.0.0.0;
-      version = f.first.0.0.1;
-      least = subst (λ k. IsTrue (is_header_length tt k)) (ap (λ x. number_at x 0 1) f.first.0.1 ∙ number_of-big_endian 1 v.0.0.0 f.first.0.0.0) f.first.1;
-      tos = f.second.0;
-      total = l.second.0.0;
-      fits = l.second.0.1;
-      id = m.first.first.0;
-      fragment = m.first.second.0.0;
-      flags = m.first.second.0.1;
-      ttl = m.second.first.0;
-      protocol = m.second.second.0;
-    }
+use Rattle.narc_ipv4.proofs.BeforeSound.{IsFrontInRange}
+use Rattle.narc_ipv4.proofs.FragmentWord.{fragment_back, fragment_of, no_flag}
+use Rattle.narc_ipv4.proofs.BeforeOctets.{octet_is, before_octets, two, before_is, before_ranges, before_stands, before_each}
 
 -- octets by their fields
 abbrev fields_with : (first tos total id fragment ttl protocol sum : ℕ) → (src dst : List ℕ) → List ℕ
@@ -168,26 +128,6 @@ forth n w o each f good =
       sum_range = word.range;
     }
 
-flag_is : (k : ℕ) (t : Bool) → k ≡ (if t then 1 else 0) → nat_eq k 1 ≡ t
-flag_is k true h = ap (λ n. nat_eq n 1) h
-flag_is k false h = ap (λ n. nat_eq n 1) h
-
--- the flags and the offset of their word
-record IsFragmentOf (df mf : Bool) (offset : ℕ) : Type 0 where
-  df_is : nat_eq (fragment_word_of df mf offset / 16384 % 2) 1 ≡ df
-  mf_is : nat_eq (fragment_word_of df mf offset / 8192 % 2) 1 ≡ mf
-  offset_is : fragment_word_of df mf offset % 8192 ≡ offset
-  small : fragment_word_of df mf offset < 2 ^ 15
-
-fragment_of : (df mf : Bool) (offset : ℕ) → offset < 8192 → IsFragmentOf df mf offset
-fragment_of true true offset h = record { df_is = flag_is _ true (omega (arith, h)); mf_is = flag_is _ true (omega (arith, h)); offset_is = omega (arith, h); small = omega (arith, h) }
-fragment_of true false offset h = record { df_is = flag_is _ true (omega (arith, h)); mf_is = flag_is _ false (omega (arith, h)); offset_is = omega (arith, h); small = omega (arith, h) }
-fragment_of false true offset h = record { df_is = flag_is _ false (omega (arith, h)); mf_is = flag_is _ true (omega (arith, h)); offset_is = omega (arith, h); small = omega (arith, h) }
-fragment_of false false offset h = record { df_is = flag_is _ false (omega (arith, h)); mf_is = flag_is _ false (omega (arith, h)); offset_is = omega (arith, h); small = omega (arith, h) }
-
-no_flag : (k : ℕ) → k < 2 ^ 15 → IsTrue (is_flags tt k)
-no_flag k h = let e : k / 32768 ≡ 0 = omega (arith, h) in ap (λ n. not (nat_eq n 1)) e
-
 is_first : (n : ℕ) → n / 16 ≡ 4 → IsTrue (is_version tt n)
 is_first n h = ap (λ k. nat_eq k 4) h
 
@@ -253,33 +193,6 @@ seen_again n h p =
     ∙ ap (λ k. with_numbers h h.length h.tos h.total h.id h.df h.mf h.offset k (h.protocol % 256)) (mod-eq_of_lt p.in_range.ttl)
     ∙ ap (λ k. with_numbers h h.length h.tos h.total h.id h.df h.mf h.offset h.ttl k) (mod-eq_of_lt p.protocol)
 
-before_stands : (n : ℕ) (v : RawBefore) → IsFrontInRange n v → IsBefore n v (before_octets v)
-before_stands n v r = record {
-  front = big_endian 1 v.0.0.0 ++ big_endian 1 v.0.0.1 ++ big_endian 2 v.0.1;
-  back = big_endian 2 v.1.0.0 ++ big_endian 2 v.1.0.1 ++ (big_endian 1 v.1.1.0 ++ big_endian 1 v.1.1.1);
-  joined = refl;
-  first = record {
-    front = big_endian 1 v.0.0.0 ++ big_endian 1 v.0.0.1;
-    back = big_endian 2 v.0.1;
-    joined = refl;
-    first = record {
-      front = big_endian 1 v.0.0.0;
-      back = big_endian 1 v.0.0.1;
-      joined = refl;
-      first = (((r.first, r.version), refl), subst (λ k. IsTrue (is_header_length tt k)) (sym (number_of-big_endian 1 v.0.0.0 r.first)) r.least);
-      second = (r.tos, refl);
-    };
-    second = ((r.total, r.fits), refl);
-  };
-  second = record {
-    front = big_endian 2 v.1.0.0 ++ big_endian 2 v.1.0.1;
-    back = big_endian 1 v.1.1.0 ++ big_endian 1 v.1.1.1;
-    joined = refl;
-    first = record { front = big_endian 2 v.1.0.0; back = big_endian 2 v.1.0.1; joined = refl; first = (r.id, refl); second = ((r.fragment, r.flags), refl) };
-    second = record { front = big_endian 1 v.1.1.0; back = big_endian 1 v.1.1.1; joined = refl; first = (r.ttl, refl); second = (r.protocol, refl) };
-  };
-}
-
 -- how long the area is
 pub area_size : (n : ℕ) (h : IpHeader) → FitsHeader n h → h.length - 20 ≡ area_length_of (64 + h.length / 4)
 area_size n h p = omega (arith, p.options, p.whole_words, p.most)
@@ -320,9 +233,6 @@ back n h o p =
       ),
       seen_again n h fits,
     )
-
-pub before_each : (v : RawBefore) → IsOctets (before_octets v)
-before_each v = (omega arith, (omega arith, (omega arith, (omega arith, (omega arith, (omega arith, (omega arith, (omega arith, (omega arith, (omega arith, tt))))))))))
 
 -- a header is octets
 pub header_each : (n : ℕ) (h : IpHeader) (o : List ℕ) → IsHeader n h o → IsOctets o

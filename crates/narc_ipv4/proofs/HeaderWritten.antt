@@ -30,7 +30,8 @@ use Rattle.narc_ipv4.specs.HeaderOctets.{packet_of, FitsHeader, header_with, Adm
 use Rattle.narc_ipv4.specs.Laws.{ip_head_laws}
 use Rattle.narc_ipv4.proofs.HeaderSound.{head_sound}
 use Rattle.narc_ipv4.proofs.HeaderChosen.{AreFields, summed_admits}
-use Rattle.narc_ipv4.proofs.HeaderOctets.{before_octets, raw_octets, before_each, header_fits, chosen_ranges, seen_again, area_size, written_are, its_octets, head_valid}
+use Rattle.narc_ipv4.proofs.BeforeOctets.{before_octets, before_each}
+use Rattle.narc_ipv4.proofs.HeaderOctets.{raw_octets, header_fits, chosen_ranges, seen_again, area_size, written_are, its_octets, head_valid}
 
 fields_of : (n : ℕ) (h : IpHeader) → FitsHeader n h → AreFields n (raw_header h)
 fields_of n h f =

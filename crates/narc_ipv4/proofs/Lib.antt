@@ -1,8 +1,11 @@
+pub mod BeforeSound
+pub mod FragmentWord
 pub mod HeaderSound
 pub mod HeaderChosen
 pub mod FirstOctet
 pub mod BeforeRead
 pub mod HeaderRead
 pub mod HeaderRows
+pub mod BeforeOctets
 pub mod HeaderOctets
 pub mod HeaderWritten

@@ -6,7 +6,7 @@ use narc_compose::Choose;
 use narc_packet::IpOptions;
 
 /// The fields of an IPv4 header. The addresses stand first, so that both are moved as one word.
-#[derive(Clone, Copy, Debug, Drop, PartialEq, Eq)]
+#[derive(Drop)]
 pub struct IpHeader<'a> {
     pub src: [u8; 4],
     pub dst: [u8; 4],

@@ -4,7 +4,7 @@ ghost use Rattle.narc_ipv4.specs.Header.{is_version, is_header_length, is_total_
 
 use crate::as_header::{AsHeader, RawBefore};
 use crate::part::BeforePart;
-use narc_compose::{Carry, Gap, Named, PartedFormat, Seq, Strip, Then};
+use narc_compose::{Carry, ForFirst, ForSecond, Gap, Named, PartedFormat, Seq, Strip, Then};
 use narc_options::OptionRegion;
 use narc_packet::field;
 use narc_scalar::{Octets4, Test, Where, Word};
@@ -56,14 +56,10 @@ pub type IpArea = Named<OptionRegion, { field::IPV4_OPTIONS }>;
 type Lengths = Seq<Then<FirstOctet, Tos>, TotalLength, LengthsIn>;
 
 /// The octets before the checksum.
-pub(crate) type Before = Seq<
-    Lengths,
-    Then<Then<Identification, Fragment>, Then<Ttl, Protocol>>,
-    InFront,
->;
+pub type Before = Seq<Lengths, Then<Then<Identification, Fragment>, Then<Ttl, Protocol>>, ForFirst>;
 
 /// The octets behind the checksum.
-type Behind = Seq<Then<Source, Destination>, IpArea, OfArea>;
+type Behind = Seq<Then<Source, Destination>, IpArea, ForSecond>;
 
 /// The fields of a header, where its checksum is free.
 pub type Fields = Seq<Gap<PartedFormat<BeforePart>>, Behind, AreaOf>;
@@ -155,25 +151,6 @@ impl Carry<(u64, u64), (), (u64, usize)> for LengthsIn {
     }
 }
 
-/// The first part has the context.
-pub struct InFront;
-
-impl<V> Carry<V, usize, ()> for InFront {
-    type Ctx = usize;
-
-    ghost first_of = { λ n. n };
-
-    ghost second_of = { λ n v. tt };
-
-    ghost valid = { λ n. n < 2 ^ 64 };
-
-    fn first(ctx: usize) -> usize {
-        ctx
-    }
-
-    fn second(_ctx: usize, _value: &V) {}
-}
-
 /// The options area has what the header's length leaves behind 20 octets.
 pub struct AreaOf;
 
@@ -192,24 +169,5 @@ impl Carry<RawBefore, usize, usize> for AreaOf {
 
     fn second(_ctx: usize, value: &RawBefore) -> usize {
         (4 * (value.0.0.0 % 16)).saturating_sub(20) as usize
-    }
-}
-
-/// The second part has the context, the length of the area.
-pub struct OfArea;
-
-impl<V> Carry<V, (), usize> for OfArea {
-    type Ctx = usize;
-
-    ghost first_of = { λ n. tt };
-
-    ghost second_of = { λ n v. n };
-
-    ghost valid = { λ n. n < 2 ^ 64 };
-
-    fn first(_ctx: usize) {}
-
-    fn second(ctx: usize, _value: &V) -> usize {
-        ctx
     }
 }

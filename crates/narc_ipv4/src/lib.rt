@@ -5,13 +5,11 @@ mod as_header;
 mod header;
 mod laws;
 mod part;
-#[cfg(test)]
-mod tests;
 
 pub use as_header::{AsHeader, IpHeader, RawBefore, RawHeader};
 pub use header::{
-    AreaOf, Fields, InFront, IpArea, IpHead, IsFlags, IsHeaderLength, IsTotalLength, IsVersion,
-    LengthsIn, OfArea,
+    AreaOf, Before, Fields, IpArea, IpHead, IsFlags, IsHeaderLength, IsTotalLength, IsVersion,
+    LengthsIn,
 };
 pub use laws::{
     ip_head_admits_what_fits, ip_head_is_its_octets, ip_head_is_refused_by_row, ip_head_is_sound,

@@ -12,4 +12,3 @@ pub mod TcpOctets
 pub mod TcpRows
 pub mod UdpWritten
 pub mod TcpWritten
-pub mod TestEnds

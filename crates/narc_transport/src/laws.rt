@@ -16,37 +16,35 @@ ghost use Rattle.narc_transport.specs.Context.{IsEnds};
 ghost use Rattle.narc_transport.specs.Segment.{IsSegment};
 ghost use Rattle.narc_transport.specs.Written.{FitsTcp, FitsUdp};
 
-use crate::parts::TcpPart;
-use crate::udp::UdpFormat;
+use crate::parts::{TcpPart, UdpPart};
 use narc_bits::Cursor;
 use narc_compose::Part;
-use narc_format::Tail;
 
-/// The conditions of the rules hold.
+/// The conditions of the rules hold. (`UdpPart` is `UdpFormat` by its calls, with its meaning as one name.)
 pub fn udp_format_is_sound()
-    ensures { ⟦<UdpFormat as Tail<Cursor<'static>>>⟧.meaning.sound }
+    ensures { ⟦<UdpPart as Part<Cursor<'static>>>⟧.meaning.sound }
 {}
 
 /// Octets stand for a datagram exactly where they are it, with its checksum or none, and then any surplus. (In the context
 /// of how many octets they are.)
 pub fn udp_format_is_its_octets()
-    ensures { (e : Ends) (u : Udp) (b : List ℕ) → IsEnds e → IsOctets b → ⟦<UdpFormat as Tail<Cursor<'static>>>⟧.meaning.stands (e, length b) u (bits b) ↔ IsUdp e.src e.dst (udp_view u) b }
+    ensures { (e : Ends) (u : Udp) (b : List ℕ) → IsEnds e → IsOctets b → ⟦<UdpPart as Part<Cursor<'static>>>⟧.meaning.stands (e, length b) u (bits b) ↔ IsUdp e.src e.dst (udp_view u) b }
 {}
 
 /// Octets that begin at the octet `start` of a frame are refused exactly where a row of UDP fails, with the field and the
 /// place of the first.
 pub fn udp_format_is_refused_by_row()
-    ensures { (e : Ends) (start : ℕ) (b : List ℕ) → IsEnds e → IsOctets b → (f : Fault) → ⟦<UdpFormat as Tail<Cursor<'static>>>⟧.meaning.refuses (e, length b) (bits b) f ↔ IsFirstFault start (udp_rows e.src e.dst b start) f }
+    ensures { (e : Ends) (start : ℕ) (b : List ℕ) → IsEnds e → IsOctets b → (f : Fault) → ⟦<UdpPart as Part<Cursor<'static>>>⟧.meaning.refuses (e, length b) (bits b) f ↔ IsFirstFault start (udp_rows e.src e.dst b start) f }
 {}
 
 /// A datagram can be written exactly where its header and payload fit the octets that are there.
 pub fn udp_format_admits_what_fits()
-    ensures { (e : Ends) (there : ℕ) (u : Udp) → IsEnds e → there < 2 ^ 64 → ⟦<UdpFormat as Tail<Cursor<'static>>>⟧.meaning.admits (e, there) u ↔ FitsUdp there (udp_view u) }
+    ensures { (e : Ends) (there : ℕ) (u : Udp) → IsEnds e → there < 2 ^ 64 → ⟦<UdpPart as Part<Cursor<'static>>>⟧.meaning.admits (e, there) u ↔ FitsUdp there (udp_view u) }
 {}
 
 /// In as many octets as a datagram has, it is written with its checksum, which is never 0, and without surplus.
 pub fn udp_format_is_written_with_its_checksum()
-    ensures { (e : Ends) (u : Udp) → IsEnds e → FitsUdp (udp_length (udp_view u)) (udp_view u) → ⟦<UdpFormat as Tail<Cursor<'static>>>⟧.meaning.spelling (e, udp_length (udp_view u)) u ≡ bits (canonical_udp e.src e.dst (udp_view u)) }
+    ensures { (e : Ends) (u : Udp) → IsEnds e → FitsUdp (udp_length (udp_view u)) (udp_view u) → ⟦<UdpPart as Part<Cursor<'static>>>⟧.meaning.spelling (e, udp_length (udp_view u)) u ≡ bits (canonical_udp e.src e.dst (udp_view u)) }
 {}
 
 /// The conditions of the rules hold. (`TcpPart` is `TcpFormat` by its calls, with its meaning as one name.)

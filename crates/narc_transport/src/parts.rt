@@ -12,7 +12,7 @@ use narc_packet::Udp;
 use std::sync::ledger::Ledger;
 
 /// The tail that `UdpPart` hands on to.
-pub(crate) type UdpPartTail = UdpFormat;
+pub type UdpPartTail = UdpFormat;
 
 /// `UdpFormat` by its calls.
 pub struct UdpPart;
@@ -47,7 +47,7 @@ impl<'a> Part<Cursor<'a>> for UdpPart {
 }
 
 /// The tail that `TcpPart` hands on to.
-pub(crate) type TcpPartTail = TcpFormat;
+pub type TcpPartTail = TcpFormat;
 
 /// `TcpFormat` by its calls.
 pub struct TcpPart;

@@ -4,11 +4,10 @@ ghost use Rattle.narc_transport.specs.Context.{IsThere};
 ghost use Rattle.narc_transport.specs.Tcp.{tcp_pseudo_of, tcp_area_length};
 
 use crate::as_tcp::AsTcp;
-use crate::carried::{ForFirst, ForSecond};
 use crate::context::Ends;
 use crate::pseudo::ends_sum;
 use crate::tcp_front::{RawTcpFront, TcpFront};
-use narc_compose::{Carry, Gap, Named, Seq, SeqTail, Strip};
+use narc_compose::{Carry, ForFirst, ForSecond, Gap, Named, Seq, SeqTail, Strip};
 use narc_list::Bytes;
 use narc_options::OptionRegion;
 use narc_packet::field;

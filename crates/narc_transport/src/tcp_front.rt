@@ -2,8 +2,7 @@
 ghost use Rattle.std.specs.Prelude.{◌≡◌};
 ghost use Rattle.narc_transport.specs.Tcp.{is_offset};
 
-use crate::carried::{ForFirst, ForSecond};
-use narc_compose::{Named, Seq, Then};
+use narc_compose::{ForFirst, ForSecond, Named, Seq, Then};
 use narc_packet::field;
 use narc_scalar::{Test, Where, Word};
 
