@@ -1,6 +1,5 @@
 //! A writer that takes a few octets at a time, and fails.
-use crate::sink::Sink;
-use crate::std_sink::StdSink;
+use narc_world::{Sink, StdSink};
 use std::io::{self, Write};
 use std::test::Fail;
 
@@ -38,25 +37,24 @@ impl Write for FailingWriter {
 fn a_push_writes_all_and_flushes_and_fails_where_the_writer_does(
     rt: HostRuntime,
 ) -> Result<(), Fail> {
-    let mut sink = StdSink::new(FailingWriter {
+    let mut writer = FailingWriter {
         taken: Vec::new(rt.alloc()),
         room: 8,
         writes: 0,
         flushes: 0,
-    });
+    };
+    let mut sink = StdSink::new(&mut writer);
     assert!(rt; sink.push(&[1, 2, 3, 4, 5]).is_ok(), "in three writes");
-    assert_eq!(rt; sink.writer.flushes, 1);
+    assert_eq!(rt; writer.flushes, 1);
+    let mut sink = StdSink::new(&mut writer);
     assert!(rt; sink.push(&[6, 7, 8]).is_err(), "the fifth write fails");
-    assert_eq!(rt; sink.faults, 1);
     assert!(rt; sink.push(&[]).is_err(), "the second flush fails");
-    assert_eq!(rt; sink.faults, 2);
     assert!(rt; sink.push(&[8, 9]).is_err(), "there is room for one");
-    assert_eq!(rt; sink.faults, 3);
+    assert!(rt; sink.push(&[]).is_ok());
     assert_eq!(rt;
-        sink.writer.taken.as_slice(),
+        writer.taken.as_slice(),
         [1, 2, 3, 4, 5, 6, 7, 8].as_slice()
     );
-    assert!(rt; sink.push(&[]).is_ok());
-    assert_eq!(rt; sink.writer.flushes, 3);
+    assert_eq!(rt; writer.flushes, 3);
     Ok(())
 }

@@ -1,5 +1,5 @@
 //! Sources and sinks in memory, the words, and the room.
-use crate::{MemorySink, MemorySource, Pulled, Room, Sink, Source, Words};
+use narc_world::{MemorySink, MemorySource, Pulled, Room, Sink, Source, Words};
 use std::test::Fail;
 
 #[test]
