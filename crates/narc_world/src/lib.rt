@@ -3,7 +3,9 @@
 #![tactic(auto)]
 
 mod calls;
+mod edit;
 mod error;
+mod input_buffer;
 mod memory_sink;
 mod memory_source;
 mod room;
@@ -13,7 +15,9 @@ mod std_sink;
 mod std_source;
 mod words;
 
+pub use edit::Edit;
 pub use error::{Failed, NoMemory};
+pub use input_buffer::{INPUT_LIMIT, InputBuffer, Refill};
 pub use memory_sink::MemorySink;
 pub use memory_source::MemorySource;
 pub use room::{FRAME_BUFFER, INPUT_BUFFER, Room, STORE_BUFFER};
