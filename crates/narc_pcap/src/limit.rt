@@ -1,4 +1,5 @@
 //! How much of a capture is read.
+use narc_world::INPUT_LIMIT;
 
 /// The most octets of a capture.
-pub const CAPTURE_LIMIT: u64 = 1 << 40;
+pub const CAPTURE_LIMIT: u64 = INPUT_LIMIT;

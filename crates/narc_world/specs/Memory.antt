@@ -41,6 +41,6 @@ abbrev pub takes_all : SinkView → (octets : ℕ) → Bool
 takes_all s octets = not (is_failing s.failing (one_more s.calls)) && nat_le (length s.held + octets) s.capacity
 
 -- how many of so many octets the next call takes: what fits, of all or of half of them
-abbrev pub taken : SinkView → (octets : ℕ) → ℕ
-taken s octets =
+abbrev pub accepted : SinkView → (octets : ℕ) → ℕ
+accepted s octets =
     min (s.capacity - length s.held) (if is_failing s.failing (one_more s.calls) then octets / 2 else octets)

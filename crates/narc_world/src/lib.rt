@@ -3,7 +3,9 @@
 #![tactic(auto)]
 
 mod calls;
+mod edit;
 mod error;
+mod input_buffer;
 mod memory_sink;
 mod memory_source;
 mod room;
@@ -11,11 +13,11 @@ mod sink;
 mod source;
 mod std_sink;
 mod std_source;
-#[cfg(test)]
-mod tests;
 mod words;
 
+pub use edit::Edit;
 pub use error::{Failed, NoMemory};
+pub use input_buffer::{INPUT_LIMIT, InputBuffer, Refill};
 pub use memory_sink::MemorySink;
 pub use memory_source::MemorySource;
 pub use room::{FRAME_BUFFER, INPUT_BUFFER, Room, STORE_BUFFER};

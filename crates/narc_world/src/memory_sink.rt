@@ -1,7 +1,7 @@
 //! A sink in memory.
 
 ghost use Rattle.std.specs.Prelude.{◌≡◌, ◌≤◌, ◌++◌, [], IfOk, OnErr, Some, if◌then◌else◌, is_ok, length, take};
-ghost use Rattle.narc_world.specs.Memory.{taken, takes_all};
+ghost use Rattle.narc_world.specs.Memory.{accepted, takes_all};
 ghost use Rattle.narc_world.specs.Outside.{CountsFaults, IsPushed, one_more};
 
 use crate::calls::Calls;
@@ -69,7 +69,7 @@ impl Sink for MemorySink {
         ensures octets { IsPushed result (Some self.old.held) (Some self.new.held) bytes.now }
         ensures faults { CountsFaults (OnErr result) self.old.faults self.new.faults }
         ensures answer { is_ok result ≡ takes_all self.old (length bytes.now) }
-        ensures held { self.new.held ≡ self.old.held ++ take (taken self.old (length bytes.now)) bytes.now }
+        ensures held { self.new.held ≡ self.old.held ++ take (accepted self.old (length bytes.now)) bytes.now }
         ensures count { self.new.faults ≡ (if is_ok result then self.old.faults else one_more self.old.faults) }
         ensures calls { self.new.calls ≡ one_more self.old.calls }
         ensures capacity { self.new.capacity ≡ self.old.capacity }

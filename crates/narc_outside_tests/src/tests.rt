@@ -1,0 +1,6 @@
+//! Tests, by what they are about.
+mod captures;
+mod memory;
+mod std_sink;
+mod std_source;
+mod texts;
