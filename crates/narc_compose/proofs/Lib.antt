@@ -1,4 +1,3 @@
 pub mod Sequences
 pub mod Measures
 pub mod Gaps
-pub mod Tried

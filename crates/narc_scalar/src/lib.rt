@@ -14,6 +14,3 @@ pub use names::{EnumOf, Names};
 pub use octets::{Octets4, Octets6};
 pub use tested::{Test, Where};
 pub use word::Word;
-
-#[cfg(test)]
-mod tests;

@@ -1,4 +1,0 @@
-use Rattle.narc_bits.proofs.tests.a_slice_has_the_octets_at_the_place.Given as goal
-
-abbrev pub ghosts-take_slice : goal.ghosts-take_slice
-ghosts-take_slice g a = record { name = a.blank.name; parts = a.blank.parts }

@@ -1,4 +1,0 @@
-use Rattle.narc_bits.proofs.tests.a_word_crosses_octets.Given as goal
-
-abbrev pub ghosts-take_words : goal.ghosts-take_words
-ghosts-take_words g a = record { name = a.blank.name; parts = a.blank.parts }

@@ -1,0 +1,81 @@
+//! The rules for checksums at concrete types, behind a pseudo header of the octets 0 and 17.
+#![tactic(auto, using(crate::proofs::Sums::checked_sound, crate::proofs::Sums::checked_or_none_sound, crate::proofs::Sums::checked_tail_sound), unfolding(narc_sum::specs::Checked::checked, narc_sum::specs::Checked::checked_or_none, narc_sum::specs::Checked::checked_tail, narc_compose::specs::Gap::gapped, narc_compose::specs::Seq::seq_tail, narc_scalar::specs::Word::word, narc_list::specs::Bytes::all_octets, narc_bits::specs::Bits::bits_of_number, narc_bits::specs::Bits::bits, narc_bits::specs::InternetSum::total))]
+
+ghost use Rattle.std.specs.Prelude.{◌∷◌, []};
+
+use super::calls::{write, write_all};
+use narc_bits::Cursor;
+use narc_compose::{Gap, NoContext, SeqTail};
+use narc_format::{Fault, Front, read_all, read_front};
+use narc_list::Bytes;
+use narc_scalar::Word;
+use narc_sum::{Checked, CheckedOrNone, CheckedTail, Pseudo};
+
+/// The octets 0 and 17.
+struct Protocol;
+
+impl Pseudo<()> for Protocol {
+    ghost pseudo_of = { λ c n. 0 ∷ 17 ∷ [] };
+
+    fn sum(_ctx: (), _octets: usize) -> u64 {
+        17
+    }
+}
+
+type Port = Checked<Gap<Word<16>>, Protocol>;
+
+type PortOrNone = CheckedOrNone<Gap<Word<16>>, Protocol>;
+
+type Segment = CheckedTail<SeqTail<Gap<Word<16>>, Bytes, NoContext>, Protocol>;
+
+#[test]
+fn a_checksum_makes_the_sum_good(rt: HostRuntime) {
+    let port = read_front::<Port>((), &[0, 1, 0xff, 0xed, 9]);
+    assert!(rt; port == Ok(Front { value: 1, bits: 32 }));
+    let wrong = Fault::unnamed().later_by(16);
+    assert!(rt; read_front::<Port>((), &[0, 1, 0xff, 0xee]) == Err(wrong));
+    let mut room = [0xaa; 5];
+    assert!(rt; write::<Cursor<'_>, Port>((), &1, &mut room) == (32, 32));
+    assert!(rt; room == [0, 1, 0xff, 0xed, 0xaa]);
+}
+
+#[test]
+fn a_checksum_of_0_has_two_spellings(rt: HostRuntime) {
+    let port = read_front::<Port>((), &[0xff, 0xee, 0, 0]);
+    assert!(rt;
+        port == Ok(Front {
+            value: 0xffee,
+            bits: 32
+        })
+    );
+    assert!(rt; read_front::<Port>((), &[0xff, 0xee, 0xff, 0xff]) == port);
+    let mut room = [0xaa; 4];
+    assert!(rt; write::<Cursor<'_>, Port>((), &0xffee, &mut room) == (32, 32));
+    assert!(rt; room == [0xff, 0xee, 0, 0]);
+}
+
+#[test]
+fn an_absent_checksum_is_0_and_a_checksum_0_is_written_as_all_ones(rt: HostRuntime) {
+    let port = read_front::<PortOrNone>((), &[0, 1, 0xff, 0xed]);
+    assert!(rt; port == Ok(Front { value: 1, bits: 32 }));
+    assert!(rt; read_front::<PortOrNone>((), &[0, 1, 0, 0]) == port);
+    let wrong = Fault::unnamed().later_by(16);
+    assert!(rt; read_front::<PortOrNone>((), &[0, 1, 0, 1]) == Err(wrong));
+    let mut room = [0xaa; 4];
+    assert!(rt; write::<Cursor<'_>, PortOrNone>((), &1, &mut room) == (32, 32));
+    assert!(rt; room == [0, 1, 0xff, 0xed]);
+    assert!(rt; write::<Cursor<'_>, PortOrNone>((), &0xffee, &mut room) == (32, 32));
+    assert!(rt; room == [0xff, 0xee, 0xff, 0xff]);
+}
+
+#[test]
+fn a_checked_tail_is_summed_to_its_end(rt: HostRuntime) {
+    let segment = read_all::<Segment>((), &[0, 1, 0xfd, 0xed, 2]);
+    assert!(rt; segment == Ok((1, [2].as_slice())));
+    let wrong = Fault::unnamed().later_by(16);
+    assert!(rt; read_all::<Segment>((), &[0, 1, 0xfd, 0xed, 3]) == Err(wrong));
+    let mut room = [0xaa; 6];
+    let value = (1, [2].as_slice());
+    assert!(rt; write_all::<Cursor<'_>, Segment>((), &value, &mut room) == (40, 40));
+    assert!(rt; room == [0, 1, 0xfd, 0xed, 2, 0xaa]);
+}
