@@ -1,3 +1,4 @@
+pub mod BitLayouts
 pub mod BothLayout
 pub mod ContextLayouts
 pub mod FieldLayout

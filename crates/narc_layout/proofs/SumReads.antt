@@ -41,6 +41,15 @@ word_in_hole hole o each room =
     ap (take 16) (sym (bits-drop o hole (omega (arith, room)))) ∙ sym (bits-take back 2 (omega (arith, room, length-drop hole o))) in
     ap (λ n. nat_eq n 0) (ap number_of_bits cut ∙ number_of_octets (take 2 back) (IsOctets-take 2 back (IsOctets-drop hole o each)) ∙ ap (λ k. number_of (take k back)) (sym two))
 
+-- a fact that is asked where a test holds
+pub where_true : {P : Type 0} (t good : Bool) → (P → IsTrue good) → (IsTrue t → P) → IsTrue (not t || good)
+where_true true good to h = to (h refl)
+where_true false good to h = refl
+
+pub where_holds : {P : Type 0} (t good : Bool) → (IsTrue good → P) → IsTrue (not t || good) → IsTrue t → P
+where_holds true good to h judged = to h
+where_holds false good to h judged = cc
+
 pub or_true : (a b : Bool) → (a ≡ true) ⊎ IsTrue b → IsTrue (a || b)
 or_true true b h = refl
 or_true false b (inl h) = cc
@@ -74,32 +83,35 @@ module _ {C : Type 0} (pseudo_of : C → ℕ → List ℕ) where
       let n : length (bits o) / 8 ≡ length o = omega (arith, length-bits o) in
       ap (λ l. total (pseudo_of c (length (bits o) / 8)) + total l) (octets_again o each) ∙ ap (λ k. total (pseudo_of c k) + total o) n
 
-  -- the sum is good, or there is none
-  abbrev pub is_good_or_none : (hole : ℕ) → C → List ℕ → Bool
-  is_good_or_none hole c o = has_no_sum hole (bits o) || is_good_total (sum_of_octets c o)
+  -- the sum is good, or there is none, or it is not judged
+  abbrev pub is_good_or_none : (judges : C → Bool) (hole : ℕ) → C → List ℕ → Bool
+  is_good_or_none judges hole c o = not (judges c) || (has_no_sum hole (bits o) || is_good_total (sum_of_octets c o))
 
-  -- the sum is good, of at most 65,535 octets
-  abbrev pub is_short_and_good : C → List ℕ → Bool
-  is_short_and_good c o = nat_lt (length o) 65536 && is_good_total (sum_of_octets c o)
+  -- the sum is good or not judged, of at most 65,535 octets
+  abbrev pub is_short_and_good : (judges : C → Bool) → C → List ℕ → Bool
+  is_short_and_good judges c o = nat_lt (length o) 65536 && (not (judges c) || is_good_total (sum_of_octets c o))
 
 -- a format with a sum that may be absent
 module _ {C V : Type 0} {F : Meaning C V} {Is : C → V → List ℕ → Type 0} {size : C → List ℕ → ℕ} {rows : C → (start : ℕ) → List ℕ → List Row}
-    (pseudo_of : C → ℕ → List ℕ) (hole : ℕ) (R : IsRead F Is size rows) where
-  abbrev accepts : C → List Bool → Bool
-  accepts c b = has_no_sum hole b || is_good_total (sum_of_bits pseudo_of c b)
+    (pseudo_of : C → ℕ → List ℕ) (hole : ℕ) (judges : C → Bool) (R : IsRead F Is size rows) where
+  abbrev has_good : C → List Bool → Bool
+  has_good c b = has_no_sum hole b || is_good_total (sum_of_bits pseudo_of c b)
 
-  rule_accepts : (c : C) (b : List Bool) → ((number_of_bits (take 16 (drop (8 * hole) b)) ≡ 0) ⊎ IsGoodTotal (sum_of_bits pseudo_of c b)) ↔ IsTrue (accepts c b)
+  abbrev accepts : C → List Bool → Bool
+  accepts c b = not (judges c) || has_good c b
+
+  rule_accepts : (c : C) (b : List Bool) → (IsTrue (judges c) → (number_of_bits (take 16 (drop (8 * hole) b)) ≡ 0) ⊎ IsGoodTotal (sum_of_bits pseudo_of c b)) ↔ IsTrue (accepts c b)
   rule_accepts c b =
       let word = number_of_bits (take 16 (drop (8 * hole) b)) in
       let sum = sum_of_bits pseudo_of c b in (
-        λ h. or_true (nat_eq word 0) (is_good_total sum) (elim h [ inl e ↦ inl (ap (λ n. nat_eq n 0) e) | inr g ↦ inr g ]),
-        λ h. elim (or_cases (nat_eq word 0) (is_good_total sum) h) [ inl e ↦ inl (eqb-true word 0 e) | inr g ↦ inr g ],
+        where_true (judges c) (has_good c b) (λ h. or_true (nat_eq word 0) (is_good_total sum) (elim h [ inl e ↦ inl (ap (λ n. nat_eq n 0) e) | inr g ↦ inr g ])),
+        where_holds (judges c) (has_good c b) (λ h. elim (or_cases (nat_eq word 0) (is_good_total sum) h) [ inl e ↦ inl (eqb-true word 0 e) | inr g ↦ inr g ]),
       )
 
-  pub checked_or_none_read : IsRead (checked_or_none pseudo_of hole F) (λ c v o. Is c v o × IsTrue (is_good_or_none pseudo_of hole c o)) size
-      (λ c start x. rows c start x ++ row 0 (start + hole) (not (is_good_or_none pseudo_of hole c (take (size c x) x))) ∷ [])
+  pub checked_or_none_read : IsRead (checked_or_none pseudo_of hole F judges) (λ c v o. Is c v o × IsTrue (is_good_or_none pseudo_of judges hole c o)) size
+      (λ c start x. rows c start x ++ row 0 (start + hole) (not (is_good_or_none pseudo_of judges hole c (take (size c x) x))) ∷ [])
   unfolding checked_or_none
-  checked_or_none_read = sealed_read pseudo_of hole R accepts (is_good_or_none pseudo_of hole) (λ c o each. ap (λ n. has_no_sum hole (bits o) || is_good_total n) (sum_again pseudo_of c o each)) (checked_or_none pseudo_of hole F)
+  checked_or_none_read = sealed_read pseudo_of hole R accepts (is_good_or_none pseudo_of judges hole) (λ c o each. ap (λ n. not (judges c) || (has_no_sum hole (bits o) || is_good_total n)) (sum_again pseudo_of c o each)) (checked_or_none pseudo_of hole F judges)
       (λ c v b. (λ p. record { stood = p.stood; good = (rule_accepts c b).0 p.passed }, λ s. record { stood = s.stood; passed = (rule_accepts c b).1 s.good }))
       (λ c b f. (
         elim [
@@ -113,23 +125,25 @@ module _ {C V : Type 0} {F : Meaning C V} {Is : C → V → List ℕ → Type 0}
       ))
 
 -- a tail with a sum
-module _ {C V : Type 0} {F : Meaning C V} {Is : C → V → List ℕ → Type 0} {rows : C → (start : ℕ) → List ℕ → List Row} (pseudo_of : C → ℕ → List ℕ) (hole : ℕ) (R : IsTailRead F Is rows) where
+module _ {C V : Type 0} {F : Meaning C V} {Is : C → V → List ℕ → Type 0} {rows : C → (start : ℕ) → List ℕ → List Row} (pseudo_of : C → ℕ → List ℕ) (hole : ℕ) (judges : C → Bool) (R : IsTailRead F Is rows) where
   abbrev good : C → List ℕ → Bool
-  good c o = is_short_and_good pseudo_of c o
+  good c o = is_short_and_good pseudo_of judges c o
 
   abbrev sum_row : C → (start : ℕ) → List ℕ → List Row
   sum_row c start x = row 0 (start + hole) (not (good c x)) ∷ []
 
   -- both facts, of bits and of octets
-  to_octets : (c : C) (o : List ℕ) → IsOctets o → length (bits o) ≤ 8 * 65535 → IsGoodTotal (sum_of_bits pseudo_of c (bits o)) → good c o ≡ true
+  to_octets : (c : C) (o : List ℕ) → IsOctets o → length (bits o) ≤ 8 * 65535 → (IsTrue (judges c) → IsGoodTotal (sum_of_bits pseudo_of c (bits o))) → good c o ≡ true
   to_octets c o each short g =
-      and_from (nat_lt (length o) 65536) (is_good_total (sum_of_octets pseudo_of c o)) (lt-ltb (length o) 65536 (omega (arith, short, length-bits o)))
-      (ap is_good_total (sym (sum_again pseudo_of c o each)) ∙ g)
+      let sum = is_good_total (sum_of_octets pseudo_of c o) in
+      and_from (nat_lt (length o) 65536) (not (judges c) || sum) (lt-ltb (length o) 65536 (omega (arith, short, length-bits o)))
+      (where_true (judges c) sum (λ h. ap is_good_total (sym (sum_again pseudo_of c o each)) ∙ h) g)
 
-  to_bits : (c : C) (o : List ℕ) → IsOctets o → good c o ≡ true → (length (bits o) ≤ 8 * 65535) × IsGoodTotal (sum_of_bits pseudo_of c (bits o))
+  to_bits : (c : C) (o : List ℕ) → IsOctets o → good c o ≡ true → (length (bits o) ≤ 8 * 65535) × (IsTrue (judges c) → IsGoodTotal (sum_of_bits pseudo_of c (bits o)))
   to_bits c o each h =
-      let p = and_parts (nat_lt (length o) 65536) (is_good_total (sum_of_octets pseudo_of c o)) h in
-      (omega (arith, ltb-true (length o) 65536 p.0, length-bits o), ap is_good_total (sum_again pseudo_of c o each) ∙ p.1)
+      let sum = is_good_total (sum_of_octets pseudo_of c o) in
+      let p = and_parts (nat_lt (length o) 65536) (not (judges c) || sum) h in
+      (omega (arith, ltb-true (length o) 65536 p.0, length-bits o), where_holds (judges c) sum (λ k. ap is_good_total (sum_again pseudo_of c o each) ∙ k) p.1)
 
   sum_fails : (a : Bool) → (a ≡ true → ⊥) → not a ≡ true
   sum_fails true h = absurd (h refl)
@@ -139,22 +153,22 @@ module _ {C V : Type 0} {F : Meaning C V} {Is : C → V → List ℕ → Type 0}
   never_both true h k = cc
   never_both false h k = cc
 
-  checked_stands : (c : C) (v : V) (b : List Bool) → (checked_tail pseudo_of hole F).stands c v b ↔ Spelled (λ o. Is c v o × IsTrue (good c o)) b
+  checked_stands : (c : C) (v : V) (b : List Bool) → (checked_tail pseudo_of hole F judges).stands c v b ↔ Spelled (λ o. Is c v o × IsTrue (good c o)) b
   unfolding checked_tail
   checked_stands c v b = (
     λ p.
         let s = (R.stands c v b).0 p.stood in
-        let sum = to_octets c s.octets s.each (omega (arith, p.passed.short, ap length s.spelled)) (subst (λ l. IsGoodTotal (sum_of_bits pseudo_of c l)) s.spelled p.passed.good) in
+        let sum = to_octets c s.octets s.each (omega (arith, p.passed.short, ap length s.spelled)) (λ judged. subst (λ l. IsGoodTotal (sum_of_bits pseudo_of c l)) s.spelled (p.passed.good judged)) in
         record { octets = s.octets; each = s.each; is = (s.is, sum); spelled = s.spelled },
     λ s.
         let h = to_bits c s.octets s.each s.is.1 in
         record {
           stood = (R.stands c v b).1 (record { octets = s.octets; each = s.each; is = s.is.0; spelled = s.spelled });
-          passed = record { short = omega (arith, h.0, ap length s.spelled); good = subst (λ l. IsGoodTotal (sum_of_bits pseudo_of c l)) (sym s.spelled) h.1 };
+          passed = record { short = omega (arith, h.0, ap length s.spelled); good = λ judged. subst (λ l. IsGoodTotal (sum_of_bits pseudo_of c l)) (sym s.spelled) (h.1 judged) };
         },
   )
 
-  checked_refuses : (c : C) (start : ℕ) (x : List ℕ) → IsOctets x → (f : Fault) → (checked_tail pseudo_of hole F).refuses c (bits x) f ↔ IsFirstFault start (rows c start x ++ sum_row c start x) f
+  checked_refuses : (c : C) (start : ℕ) (x : List ℕ) → IsOctets x → (f : Fault) → (checked_tail pseudo_of hole F judges).refuses c (bits x) f ↔ IsFirstFault start (rows c start x ++ sum_row c start x) f
   unfolding checked_tail
   checked_refuses c start x each f = (
     elim [
@@ -187,7 +201,7 @@ module _ {C V : Type 0} {F : Meaning C V} {Is : C → V → List ℕ → Type 0}
     ],
   )
 
-  pub checked_tail_read : IsTailRead (checked_tail pseudo_of hole F) (λ c v o. Is c v o × IsTrue (is_short_and_good pseudo_of c o)) (λ c start x. rows c start x ++ row 0 (start + hole) (not (is_short_and_good pseudo_of c x)) ∷ [])
+  pub checked_tail_read : IsTailRead (checked_tail pseudo_of hole F judges) (λ c v o. Is c v o × IsTrue (is_short_and_good pseudo_of judges c o)) (λ c start x. rows c start x ++ row 0 (start + hole) (not (is_short_and_good pseudo_of judges c x)) ∷ [])
   checked_tail_read = record {
     stands = checked_stands;
     refuses = checked_refuses;

@@ -1,5 +1,5 @@
 -- Octets and rows of a segment, by those of its rules.
-use Rattle.std.proofs.Common.{◌≡◌, ℕ, Bool, ◌+◌, ◌^◌, ◌<◌, not, ◌||◌, List, [], ◌∷◌, ◌++◌, length, take, drop, IsTrue, refl, ap, ◌∙◌, lit≤}
+use Rattle.std.proofs.Common.{◌≡◌, ℕ, Bool, true, ◌+◌, ◌^◌, ◌<◌, not, ◌||◌, List, [], ◌∷◌, ◌++◌, length, take, drop, IsTrue, refl, ap, ◌∙◌, lit≤}
 use Rattle.std.specs.Borrow.{Bor}
 use Rattle.narc_bits.specs.Octets.{is_shorter, number_at, big_endian}
 use Rattle.narc_format.specs.Rows.{Row, row}
@@ -126,7 +126,7 @@ segment_read : IsTailRead tcp_segment IsSegmentRead (λ c start x. segment_rows 
 segment_read = seq_tail_read (λ c. c.1) (λ c v. tcp_area_length v.1.0) IsThere header_read behind_read (λ c x. tcp_area_length (number_at x 12 2)) (λ c v o later each p. knows_area c.1 v o later p)
 
 abbrev pub has_good_sum : Ends × ℕ → List ℕ → Bool
-has_good_sum c o = is_short_and_good tcp_pseudo_of c o
+has_good_sum c o = is_short_and_good tcp_pseudo_of (λ d. true) c o
 
 abbrev pub summed_rows : Ends × ℕ → (start : ℕ) → List ℕ → List Row
 summed_rows c start x = rename field.TCP_CHECKSUM (segment_rows c.1 start x ++ row 0 (start + 16) (not (has_good_sum c x)) ∷ [])
@@ -135,7 +135,7 @@ abbrev pub IsSummed : Ends × ℕ → RawTcp → List ℕ → Type 0
 IsSummed c v o = IsSegmentRead c v o × IsTrue (has_good_sum c o)
 
 summed_read : IsTailRead tcp_summed IsSummed summed_rows
-summed_read = named_tail_read field.TCP_CHECKSUM (checked_tail_read tcp_pseudo_of 16 segment_read)
+summed_read = named_tail_read field.TCP_CHECKSUM (checked_tail_read tcp_pseudo_of 16 (λ c. true) segment_read)
 
 -- the octets that stand for a segment, and the rows that refuse others
 abbrev pub IsTcpRead : Ends × ℕ → TcpWithOffset → List ℕ → Type 0

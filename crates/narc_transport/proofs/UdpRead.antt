@@ -1,5 +1,5 @@
 -- Octets and rows of a datagram, by those of its rules.
-use Rattle.std.proofs.Common.{◌≡◌, ℕ, Bool, ◌+◌, ◌-◌, ◌^◌, ◌<◌, not, ◌||◌, List, [], ◌∷◌, ◌++◌, length, take, drop, IsTrue, refl, ap, ◌∙◌, append_assoc, lit≤}
+use Rattle.std.proofs.Common.{◌≡◌, ℕ, Bool, true, ◌+◌, ◌-◌, ◌^◌, ◌<◌, not, ◌||◌, List, [], ◌∷◌, ◌++◌, length, take, drop, IsTrue, refl, ap, ◌∙◌, append_assoc, lit≤}
 use Rattle.std.specs.Borrow.{Bor}
 use Rattle.narc_bits.specs.Octets.{is_shorter, number_at, big_endian}
 use Rattle.narc_format.specs.Rows.{Row, row}
@@ -95,7 +95,7 @@ datagram_read : IsRead udp_datagram IsDatagram (λ c x. datagram_size x) (λ c s
 datagram_read = seq_read (λ c. c.1) (λ c v. v.1 - 8) IsThere header_read payload_read (λ c x. payload_length x) (λ c v o later each p. ap (λ n. n - 8) (knows_length c.1 v o later p))
 
 abbrev pub has_good_sum : Ends × ℕ → List ℕ → Bool
-has_good_sum c o = is_good_or_none udp_pseudo_of 6 c o
+has_good_sum c o = is_good_or_none udp_pseudo_of (λ d. true) 6 c o
 
 abbrev pub summed_rows : Ends × ℕ → (start : ℕ) → List ℕ → List Row
 summed_rows c start x = rename field.UDP_CHECKSUM (datagram_rows c.1 start x ++ row 0 (start + 6) (not (has_good_sum c (take (datagram_size x) x))) ∷ [])
@@ -104,7 +104,7 @@ abbrev pub IsSummed : Ends × ℕ → RawDatagram → List ℕ → Type 0
 IsSummed c v o = IsDatagram c v o × IsTrue (has_good_sum c o)
 
 summed_read : IsRead udp_summed IsSummed (λ c x. datagram_size x) summed_rows
-summed_read = named_read field.UDP_CHECKSUM (checked_or_none_read udp_pseudo_of 6 datagram_read)
+summed_read = named_read field.UDP_CHECKSUM (checked_or_none_read udp_pseudo_of 6 (λ c. true) datagram_read)
 
 -- a datagram, and any surplus
 abbrev pub IsUdpAndSurplus : Ends × ℕ → RawUdp → List ℕ → Type 0

@@ -1,5 +1,5 @@
 -- What datagrams and segments promise, each a term made of the laws of its rules.
-use Rattle.std.specs.Prelude.{ℕ, ◌-◌, ◌<◌, ◌^◌}
+use Rattle.std.specs.Prelude.{ℕ, ◌-◌, ◌<◌, ◌^◌, true}
 use Rattle.narc_packet.specs.declared.field.TheConstants as field
 use Rattle.narc_format.specs.Laws.{Laws, TailLaws}
 use Rattle.narc_scalar.specs.Tested.{tested}
@@ -47,7 +47,7 @@ pub udp_datagram_laws : Laws udp_datagram
 udp_datagram_laws = seq_laws (λ c. c.1) (λ c v. v.1 - 8) IsThere (gapped 48 udp_front) udp_payload (gapped_laws 48 udp_front udp_front_laws) udp_payload_laws
 
 pub udp_summed_laws : Laws udp_summed
-udp_summed_laws = named_laws field.UDP_CHECKSUM (checked_or_none udp_pseudo_of 6 udp_datagram) (checked_or_none_laws udp_pseudo_of 6 udp_datagram udp_datagram_laws)
+udp_summed_laws = named_laws field.UDP_CHECKSUM (checked_or_none udp_pseudo_of 6 udp_datagram (λ c. true)) (checked_or_none_laws udp_pseudo_of 6 udp_datagram udp_datagram_laws (λ c. true))
 
 pub udp_and_surplus_laws : TailLaws udp_and_surplus
 udp_and_surplus_laws = seq_tail_laws (λ c. c) (λ c v. c.1 - v.0.1) IsThere udp_summed padding udp_summed_laws padding_laws
@@ -86,7 +86,7 @@ pub tcp_segment_laws : TailLaws tcp_segment
 tcp_segment_laws = seq_tail_laws (λ c. c.1) (λ c v. tcp_area_length v.1.0) IsThere (gapped 128 tcp_front) tcp_behind (gapped_laws 128 tcp_front tcp_front_laws) tcp_behind_laws
 
 pub tcp_summed_laws : TailLaws tcp_summed
-tcp_summed_laws = named_tail_laws field.TCP_CHECKSUM (checked_tail tcp_pseudo_of 16 tcp_segment) (checked_tail_laws tcp_pseudo_of 16 tcp_segment tcp_segment_laws)
+tcp_summed_laws = named_tail_laws field.TCP_CHECKSUM (checked_tail tcp_pseudo_of 16 tcp_segment (λ c. true)) (checked_tail_laws tcp_pseudo_of 16 tcp_segment tcp_segment_laws (λ c. true))
 
 pub tcp_laws : TailLaws tcp_format
 tcp_laws = stripped_tail_laws tcp_of (λ c t. raw_tcp t) SameTcp tcp_summed tcp_summed_laws

@@ -1,5 +1,5 @@
 -- TCP segments (RFC 793).
-use Rattle.std.specs.Prelude.{◌≡◌, ℕ, ◌+◌, ◌*◌, ◌-◌, ◌/◌, ◌%◌, ◌<◌, ◌^◌, Bool, not, ◌&&◌, List, nat_lt}
+use Rattle.std.specs.Prelude.{◌≡◌, ℕ, ◌+◌, ◌*◌, ◌-◌, ◌/◌, ◌%◌, ◌<◌, ◌^◌, Bool, true, not, ◌&&◌, List, nat_lt}
 use Rattle.std.specs.Borrow.{Bor}
 use Rattle.narc_packet.specs.declared.field.TheConstants as field
 use Rattle.narc_format.specs.Meaning.{Meaning}
@@ -97,7 +97,7 @@ abbrev pub tcp_segment : Meaning (Ends × ℕ) RawTcp
 tcp_segment = seq_tail {C = Ends × ℕ} {CA = ℕ} {CB = ℕ} (λ c. c.1) (λ c v. tcp_area_length v.1.0) IsThere (gapped 128 tcp_front) tcp_behind
 
 abbrev pub tcp_summed : Meaning (Ends × ℕ) RawTcp
-tcp_summed = named field.TCP_CHECKSUM (checked_tail tcp_pseudo_of 16 tcp_segment)
+tcp_summed = named field.TCP_CHECKSUM (checked_tail tcp_pseudo_of 16 tcp_segment (λ c. true))
 
 -- what `TcpFormat` means
 abbrev pub tcp_format : Meaning (Ends × ℕ) TcpWithOffset

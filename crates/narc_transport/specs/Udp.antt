@@ -1,5 +1,5 @@
 -- UDP datagrams (RFC 768).
-use Rattle.std.specs.Prelude.{◌≡◌, ℕ, ◌+◌, ◌-◌, ◌%◌, ◌<◌, ◌^◌, Bool, not, ◌&&◌, List, length, nat_lt}
+use Rattle.std.specs.Prelude.{◌≡◌, ℕ, ◌+◌, ◌-◌, ◌%◌, ◌<◌, ◌^◌, Bool, true, not, ◌&&◌, List, length, nat_lt}
 use Rattle.std.specs.Borrow.{Bor}
 use Rattle.narc_packet.specs.declared.field.TheConstants as field
 use Rattle.narc_format.specs.Meaning.{Meaning}
@@ -65,7 +65,7 @@ abbrev pub udp_datagram : Meaning (Ends × ℕ) RawDatagram
 udp_datagram = seq {C = Ends × ℕ} {CA = ℕ} {CB = ℕ} (λ c. c.1) (λ c v. v.1 - 8) IsThere (gapped 48 udp_front) udp_payload
 
 abbrev pub udp_summed : Meaning (Ends × ℕ) RawDatagram
-udp_summed = named field.UDP_CHECKSUM (checked_or_none udp_pseudo_of 6 udp_datagram)
+udp_summed = named field.UDP_CHECKSUM (checked_or_none udp_pseudo_of 6 udp_datagram (λ c. true))
 
 abbrev pub udp_and_surplus : Meaning (Ends × ℕ) RawUdp
 udp_and_surplus = seq_tail {C = Ends × ℕ} {CA = Ends × ℕ} {CB = ℕ} (λ c. c) (λ c v. c.1 - v.0.1) IsThere udp_summed padding
