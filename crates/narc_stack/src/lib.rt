@@ -17,7 +17,7 @@ mod refusal;
 pub use as_ipv4::AsIpv4;
 pub use as_packet::AsPacket;
 pub use compare::same;
-pub use content::{ByTcp, ByUdp, Content, ContentOctets, IpContent};
+pub use content::{ByTcp, ByUdp, ContentContext, ContentOctets, IpContent};
 pub use decode::decode_frame;
 pub use encode::{encode_frame, frame_size};
 pub use frame::{
