@@ -20,8 +20,8 @@ use Rattle.narc_layout.proofs.ViewReads.{all_octets_read}
 use Rattle.narc_transport.specs.Context.{IsEnds}
 use Rattle.narc_transport.specs.declared.as_tcp.TcpWithOffset.{TcpWithOffset}
 use Rattle.narc_transport.specs.declared.context.Ends.{Ends}
-use Rattle.narc_stack.specs.declared.content.Content.{Content}
-use Rattle.narc_stack.specs.Content.{RawContent, IsContent, by_udp, by_tcp, tcp_or_raw, ip_content}
+use Rattle.narc_stack.specs.declared.content.ContentContext.{ContentContext}
+use Rattle.narc_stack.specs.Content.{RawContent, IsContentContext, by_udp, by_tcp, tcp_or_raw, ip_content}
 use Rattle.narc_stack.specs.Ipv4.{body_of, protocol_of}
 use Rattle.narc_transport.specs.Parts.{udp_part, tcp_part}
 use Rattle.narc_transport.specs.Segment.{IsSegment}
@@ -48,26 +48,26 @@ tcp_part_read = tcp_read
 abbrev unread : Unit {0} → (start : ℕ) → List ℕ → List Row
 unread c start x = []
 
-abbrev tcp_or_raw_rows : Content → (start : ℕ) → List ℕ → List Row
+abbrev tcp_or_raw_rows : ContentContext → (start : ℕ) → List ℕ → List Row
 tcp_or_raw_rows c start x = member_rows tcp.summed_rows unread (by_tcp c) start x
 
-abbrev pub content_read_rows : Content → (start : ℕ) → List ℕ → List Row
+abbrev pub content_read_rows : ContentContext → (start : ℕ) → List ℕ → List Row
 content_read_rows c start x = member_rows udp_read_rows tcp_or_raw_rows (by_udp c) start x
 
-abbrev IsTcpOrRaw : Content → Either TcpWithOffset (Bor (List ℕ)) → List ℕ → Type 0
+abbrev IsTcpOrRaw : ContentContext → Either TcpWithOffset (Bor (List ℕ)) → List ℕ → Type 0
 IsTcpOrRaw c v o = Sides (λ a s. IsTcpRead a s o) (λ z l. o ≡ l.now) (by_tcp c) v
 
-abbrev pub IsContentRead : Content → RawContent → List ℕ → Type 0
+abbrev pub IsContentRead : ContentContext → RawContent → List ℕ → Type 0
 IsContentRead c v o = Sides (λ a u. IsUdpRead a u o) (λ d w. IsTcpOrRaw d w o) (by_udp c) v
 
 tcp_or_raw_read : IsTailRead tcp_or_raw IsTcpOrRaw tcp_or_raw_rows
-tcp_or_raw_read = united_read by_tcp IsContent tcp_part_read all_octets_read
+tcp_or_raw_read = united_read by_tcp IsContentContext tcp_part_read all_octets_read
 
 pub content_read : IsTailRead ip_content IsContentRead content_read_rows
-content_read = united_read by_udp IsContent udp_part_read tcp_or_raw_read
+content_read = united_read by_udp IsContentContext udp_part_read tcp_or_raw_read
 
 -- data in as many octets as the context says
-pub record IsHere (c : Content) (d : List ℕ) : Type 0 where
+pub record IsHere (c : ContentContext) (d : List ℕ) : Type 0 where
   pub ends : IsEnds c.ends
   pub protocol : c.protocol < 256
   pub each : IsOctets d
@@ -75,14 +75,14 @@ pub record IsHere (c : Content) (d : List ℕ) : Type 0 where
   pub short : c.octets ≤ 65535
 
 -- the rows that judge the data
-abbrev pub data_rows : Content → (start : ℕ) → List ℕ → List Row
+abbrev pub data_rows : ContentContext → (start : ℕ) → List ℕ → List Row
 data_rows c start d =
     if c.fragment then []
     else if nat_eq c.protocol 17 then udp_rows c.ends.src c.ends.dst d start
     else if nat_eq c.protocol 6 then tcp_rows c.ends.src c.ends.dst d start
     else []
 
-module _ (c : Content) (d : List ℕ) (h : IsHere c d) (start : ℕ) where
+module _ (c : ContentContext) (d : List ℕ) (h : IsHere c d) (start : ℕ) where
   tcp_or_none : (fragment is_tcp : Bool) → first_failing (member_rows tcp.summed_rows unread (if is_tcp && not fragment then Left (c.ends, c.octets) else Right tt) start d) ≡ first_failing (if fragment then [] else if is_tcp then tcp_rows c.ends.src c.ends.dst d start else [])
   tcp_or_none true true = refl
   tcp_or_none true false = refl
@@ -100,7 +100,7 @@ module _ (c : Content) (d : List ℕ) (h : IsHere c d) (start : ℕ) where
   content_rows_are = udp_or_others c.fragment (nat_eq c.protocol 17) _ (tcp_or_none c.fragment (nat_eq c.protocol 6))
 
 -- the data is of this kind, and its octets are these
-pub record IsData (c : Content) (b : IpBody) (d : List ℕ) : Type 0 where
+pub record IsData (c : ContentContext) (b : IpBody) (d : List ℕ) : Type 0 where
   pub protocol : protocol_of b ≡ c.protocol
   pub may_have_body : MayHaveBody c.fragment (ip_body_view b)
   pub body : IsIpBody c.ends.src c.ends.dst (ip_body_view b) d
@@ -131,7 +131,7 @@ not_taken false true is_udp h = cc
 not_taken false false true h = cc
 not_taken false false false h = (refl, refl)
 
-module _ (c : Content) (d : List ℕ) (h : IsHere c d) where
+module _ (c : ContentContext) (d : List ℕ) (h : IsHere c d) where
   tcp_or_raw_data : (t : Bool) → (nat_eq c.protocol 6 && not c.fragment) ≡ t → (nat_eq c.protocol 17 && not c.fragment) ≡ false → (v : Either TcpWithOffset (Bor (List ℕ)))
       → Sides {A = Ends × ℕ} {B = Unit {0}} (λ a s. IsTcpRead a s d) (λ z l. d ≡ l.now) (if t then Left (c.ends, c.octets) else Right tt) v → IsData c (body_of c.protocol (Right v)) d
   tcp_or_raw_data true e other (Left s) p =

@@ -23,8 +23,8 @@ use Rattle.narc_transport.proofs.UdpSound.{udp_sound, udp_fills}
 use Rattle.narc_transport.proofs.UdpChosen.{udp_chosen}
 use Rattle.narc_transport.proofs.TcpSound.{tcp_sound, tcp_fills}
 use Rattle.narc_transport.proofs.TcpChosen.{tcp_chosen, tcp_filled, with_offset}
-use Rattle.narc_stack.specs.declared.content.Content.{Content}
-use Rattle.narc_stack.specs.Content.{RawContent, IsContent, tcp_or_raw, ip_content}
+use Rattle.narc_stack.specs.declared.content.ContentContext.{ContentContext}
+use Rattle.narc_stack.specs.Content.{RawContent, IsContentContext, tcp_or_raw, ip_content}
 use Rattle.narc_stack.specs.Ipv4.{body_of, protocol_of, octets_of, raw_content}
 
 udp_part_sound : udp_part.sound
@@ -51,7 +51,7 @@ tcp_part_fills : (c : Ends × ℕ) → IsThere c → (v : TcpWithOffset) (b : Li
 unfolding tcp_part
 tcp_part_fills c ok v b p = tcp_fills c ok v b p
 
-tcp_picked : (c : Content) → IsContent c → (t : Bool) → Side tcp_part.valid all_octets.valid (if t then Left (c.ends, c.octets) else Right tt)
+tcp_picked : (c : ContentContext) → IsContentContext c → (t : Bool) → Side tcp_part.valid all_octets.valid (if t then Left (c.ends, c.octets) else Right tt)
 unfolding all_octets
 tcp_picked c ok true = tcp_part_valid (c.ends, c.octets) (ok.0, ok.2)
 tcp_picked c ok false = tt
@@ -60,7 +60,7 @@ tcp_or_raw_sound : tcp_or_raw.sound
 unfolding united all_octets
 tcp_or_raw_sound = record { left_sound = tcp_part_sound; right_sound = tt; picked = λ c ok. tcp_picked c ok (nat_eq c.protocol 6 && not c.fragment) }
 
-udp_picked : (c : Content) → IsContent c → (t : Bool) → Side udp_part.valid tcp_or_raw.valid (if t then Left (c.ends, c.octets) else Right c)
+udp_picked : (c : ContentContext) → IsContentContext c → (t : Bool) → Side udp_part.valid tcp_or_raw.valid (if t then Left (c.ends, c.octets) else Right c)
 unfolding united
 udp_picked c ok true = udp_part_valid (c.ends, c.octets) (ok.0, ok.2)
 udp_picked c ok false = ok
@@ -70,7 +70,7 @@ unfolding united
 content_sound = record { left_sound = udp_part_sound; right_sound = tcp_or_raw_sound; picked = λ c ok. udp_picked c ok (nat_eq c.protocol 17 && not c.fragment) }
 
 -- what fills a region is written as what fills it
-tcp_side : (c : Content) → IsContent c → (t : Bool) (v : Either TcpWithOffset (Bor (List ℕ))) (b : List Bool) → length b ≡ 8 * c.octets
+tcp_side : (c : ContentContext) → IsContentContext c → (t : Bool) (v : Either TcpWithOffset (Bor (List ℕ))) (b : List Bool) → length b ≡ 8 * c.octets
     → Sides (λ a x. tcp_part.stands a x b) (λ z y. all_octets.stands z y b) (if t then Left (c.ends, c.octets) else Right tt) v
     → length (side_spelling tcp_part.spelling all_octets.spelling (if t then Left (c.ends, c.octets) else Right tt) v) ≡ 8 * c.octets
 unfolding all_octets
@@ -79,7 +79,7 @@ tcp_side c ok true (Right l) b size p = absurd p
 tcp_side c ok false (Left s) b size p = absurd p
 tcp_side c ok false (Right l) b size p = ap length (sym p.1) ∙ size
 
-udp_side : (c : Content) → IsContent c → (t : Bool) (v : RawContent) (b : List Bool) → length b ≡ 8 * c.octets
+udp_side : (c : ContentContext) → IsContentContext c → (t : Bool) (v : RawContent) (b : List Bool) → length b ≡ 8 * c.octets
     → Sides (λ a x. udp_part.stands a x b) (λ z y. tcp_or_raw.stands z y b) (if t then Left (c.ends, c.octets) else Right c) v
     → length (side_spelling udp_part.spelling tcp_or_raw.spelling (if t then Left (c.ends, c.octets) else Right c) v) ≡ 8 * c.octets
 unfolding united
@@ -88,7 +88,7 @@ udp_side c ok true (Right l) b size p = absurd p
 udp_side c ok false (Left u) b size p = absurd p
 udp_side c ok false (Right l) b size p = tcp_side c ok (nat_eq c.protocol 6 && not c.fragment) l b size p
 
-pub content_region_sound : (region (λ (c : Content). c.octets) ip_content).sound
+pub content_region_sound : (region (λ (c : ContentContext). c.octets) ip_content).sound
 unfolding region united
 content_region_sound = record {
   part_sound = content_sound;
@@ -111,10 +111,10 @@ same_body protocol (Right v) (Left x) h = absurd h
 same_body protocol (Right v) (Right w) h = tcp_or_raw_same protocol v w h
 
 -- the data for this protocol in so many octets
-abbrev pub content_with : Content → (protocol octets : ℕ) → Content
+abbrev pub content_with : ContentContext → (protocol octets : ℕ) → ContentContext
 content_with c protocol octets = record c { protocol = protocol; octets = octets }
 
-udp_takes : (a : Ends × ℕ) (c : Content) (t : Bool) → t ≡ true → (u : Udp) → udp_part.admits a u → length (udp_part.spelling a u) ≡ 8 * a.1
+udp_takes : (a : Ends × ℕ) (c : ContentContext) (t : Bool) → t ≡ true → (u : Udp) → udp_part.admits a u → length (udp_part.spelling a u) ≡ 8 * a.1
     → Sides udp_part.admits tcp_or_raw.admits (if t then Left a else Right c) (Left u) × (length (side_spelling udp_part.spelling tcp_or_raw.spelling (if t then Left a else Right c) (Left u)) ≡ 8 * a.1)
 udp_takes a c true e u h k = (h, k)
 udp_takes a c false e u h k = cc
@@ -130,7 +130,7 @@ unfolding all_octets
 raw_takes a true e l h = cc
 raw_takes a false e l h = (h, length-bits l.now)
 
-not_udp : (a : Ends × ℕ) (c : Content) (t : Bool) → t ≡ false → (v : Either TcpWithOffset (Bor (List ℕ))) (n : ℕ) → tcp_or_raw.admits c v → length (tcp_or_raw.spelling c v) ≡ n
+not_udp : (a : Ends × ℕ) (c : ContentContext) (t : Bool) → t ≡ false → (v : Either TcpWithOffset (Bor (List ℕ))) (n : ℕ) → tcp_or_raw.admits c v → length (tcp_or_raw.spelling c v) ≡ n
     → Sides udp_part.admits tcp_or_raw.admits (if t then Left a else Right c) (Right v) × (length (side_spelling udp_part.spelling tcp_or_raw.spelling (if t then Left a else Right c) (Right v)) ≡ n)
 not_udp a c true e v n h k = cc
 not_udp a c false e v n h k = (h, k)
@@ -155,13 +155,13 @@ tcp_part_chosen c ok short s a size =
     (most, few, t.admitted, t.size)
 
 -- what is known of the data that is written
-pub record IsChosenContent (c : Content) (body : IpBody) : Type 0 where
+pub record IsChosenContent (c : ContentContext) (body : IpBody) : Type 0 where
   pub most : octets_of body ≤ c.octets
   pub known : protocol_of body < 256
   pub admitted : ip_content.admits (content_with c (protocol_of body) (octets_of body)) (raw_content body)
   pub size : length (ip_content.spelling (content_with c (protocol_of body) (octets_of body)) (raw_content body)) ≡ 8 * octets_of body
 
-tcp_body_chosen : (c : Content) → IsContent c → c.octets ≤ 65535 → (t : Bool) → (nat_eq c.protocol 6 && not c.fragment) ≡ t → (nat_eq c.protocol 17 && not c.fragment) ≡ false
+tcp_body_chosen : (c : ContentContext) → IsContentContext c → c.octets ≤ 65535 → (t : Bool) → (nat_eq c.protocol 6 && not c.fragment) ≡ t → (nat_eq c.protocol 17 && not c.fragment) ≡ false
     → (v : Either TcpWithOffset (Bor (List ℕ)))
     → Sides tcp_part.admits all_octets.admits (if t then Left (c.ends, c.octets) else Right tt) v
     → length (side_spelling tcp_part.spelling all_octets.spelling (if t then Left (c.ends, c.octets) else Right tt) v) ≡ 8 * c.octets
@@ -184,7 +184,7 @@ tcp_body_chosen c ok short false e other (Right l) a size =
     let q = not_udp (c.ends, length l.now) (content_with c c.protocol (length l.now)) (nat_eq c.protocol 17 && not c.fragment) other (Right l) (8 * length l.now) r.0 r.1 in
     record { most = omega (arith, size, length-bits l.now); known = ok.1; admitted = q.0; size = q.1 }
 
-udp_body_chosen : (c : Content) → IsContent c → c.octets ≤ 65535 → (t : Bool) → (nat_eq c.protocol 17 && not c.fragment) ≡ t
+udp_body_chosen : (c : ContentContext) → IsContentContext c → c.octets ≤ 65535 → (t : Bool) → (nat_eq c.protocol 17 && not c.fragment) ≡ t
     → (v : RawContent)
     → Sides udp_part.admits tcp_or_raw.admits (if t then Left (c.ends, c.octets) else Right c) v
     → length (side_spelling udp_part.spelling tcp_or_raw.spelling (if t then Left (c.ends, c.octets) else Right c) v) ≡ 8 * c.octets
@@ -201,6 +201,6 @@ udp_body_chosen c ok short false e (Left u) a size = absurd a
 udp_body_chosen c ok short false e (Right v) a size = tcp_body_chosen c ok short (nat_eq c.protocol 6 && not c.fragment) refl e v a size
 
 -- data that can be written in some region can be in the one that is chosen
-pub content_chosen : (c : Content) → IsContent c → c.octets ≤ 65535 → (v : RawContent) → (region (λ (c : Content). c.octets) ip_content).admits c v → IsChosenContent c (body_of c.protocol v)
+pub content_chosen : (c : ContentContext) → IsContentContext c → c.octets ≤ 65535 → (v : RawContent) → (region (λ (c : ContentContext). c.octets) ip_content).admits c v → IsChosenContent c (body_of c.protocol v)
 unfolding region united
 content_chosen c ok short v a = udp_body_chosen c ok short (nat_eq c.protocol 17 && not c.fragment) refl v a.admitted a.filled

@@ -12,10 +12,11 @@ use Rattle.narc_packet.specs.Ipv4.{IsIpBody, IsIpv4}
 use Rattle.narc_packet.specs.Frame.{IsEthBody, IsFrame}
 use Rattle.narc_packet.specs.WellFormed.{FitArea, IsWellFormedIpBody, IsWellFormedIpv4, smallest_length, SpellsOptions}
 use Rattle.narc_packet.specs.declared.packet.Packet.{Packet}
+use Rattle.narc_stack.specs.FramePart.{frame_laws}
 use Rattle.narc_stack.specs.WholeFrame.{whole_frame}
 use Rattle.narc_stack.specs.Admitted.{IsAdmittedBody, IsAdmitted}
 use Rattle.narc_stack.proofs.Canonical.{canonical_is_frame}
-use Rattle.narc_stack.proofs.FrameSound.{frame_sound, frame_valid, frame_laws}
+use Rattle.narc_stack.proofs.FrameSound.{frame_sound, frame_valid}
 use Rattle.narc_stack.proofs.FrameRead.{frame_read}
 use Rattle.narc_stack.proofs.FrameRelation.{frame_is, frame_stands}
 

@@ -33,9 +33,10 @@ use Rattle.narc_eth.proofs.HeaderLayout.{eth_head_layout}
 use Rattle.narc_eth.proofs.ArpLayout.{arp_layout}
 use Rattle.narc_ipv4.specs.Header.{ip_head}
 use Rattle.narc_transport.specs.Parts.{udp_part, tcp_part}
+use Rattle.narc_stack.specs.FramePart.{frame_part, frame_laws}
 use Rattle.narc_stack.specs.Ipv4Part.{ipv4_part}
 use Rattle.narc_stack.specs.WholeFrame.{whole_frame}
-use Rattle.narc_stack.proofs.FrameSound.{frame_sound, frame_laws}
+use Rattle.narc_stack.proofs.FrameSound.{frame_sound}
 use Rattle.narc_stack.proofs.FrameSeen.{packet_seen}
 use Rattle.narc_stack.proofs.FrameRelation.{frame_stands, frame_refuses}
 
@@ -110,8 +111,8 @@ ipv4_depth : ipv4_part.depth ≡ 2
 unfolding ipv4_part stripped measured seq_tail region united padding all_octets
 ipv4_depth = omega (arith, head_depth, udp_depth, tcp_depth)
 
-frame_depth : whole_frame.depth ≡ 2
-unfolding stripped seq_tail united padding all_octets
+frame_depth : frame_part.depth ≡ 2
+unfolding frame_part stripped seq_tail united padding all_octets
 frame_depth = omega (arith, eth_head_layout.shape.depth, arp_layout.shape.depth, ipv4_depth)
 
 -- a reading from the first octet on
@@ -119,17 +120,19 @@ module _ (b : List ℕ) (old new : Scan) (before after : ℕ) (start : old ≡ r
   left : bits_left old ≡ bits b
   left = ap bits_left start
 
-  pub stood_whole : (p : Packet) → TookAll whole_frame tt old new before after p → whole_frame.stands tt p (bits b)
+  pub stood_whole : (p : Packet) → TookAll frame_part tt old new before after p → whole_frame.stands tt p (bits b)
+  unfolding frame_part
   stood_whole p t = subst (whole_frame.stands tt p) left t.stood
 
-  pub refused_whole : (f : Fault) → Refused whole_frame tt old new before after f → whole_frame.refuses tt (bits b) f
+  pub refused_whole : (f : Fault) → Refused frame_part tt old new before after f → whole_frame.refuses tt (bits b) f
+  unfolding frame_part
   refused_whole f t = subst (λ l. whole_frame.refuses tt l f) left t.fault
 
-  cost_of : (extra : ℕ) → extra ≤ 2 → 2 * after ≤ 2 * before + (2 + whole_frame.depth) * length (bits_left old) + extra → after ≤ before + 16 * length b + 1
+  cost_of : (extra : ℕ) → extra ≤ 2 → 2 * after ≤ 2 * before + (2 + frame_part.depth) * length (bits_left old) + extra → after ≤ before + 16 * length b + 1
   cost_of extra most h = omega (arith, most, subst (λ d. 2 * after ≤ 2 * before + (2 + d) * length (bits_left old) + extra) frame_depth h, ap length left, length-bits b)
 
-  pub cost_took : (p : Packet) → TookAll whole_frame tt old new before after p → after ≤ before + 16 * length b + 1
+  pub cost_took : (p : Packet) → TookAll frame_part tt old new before after p → after ≤ before + 16 * length b + 1
   cost_took p t = cost_of 0 (omega arith) (omega (arith, t.cost))
 
-  pub cost_refused : (f : Fault) → Refused whole_frame tt old new before after f → after ≤ before + 16 * length b + 1
+  pub cost_refused : (f : Fault) → Refused frame_part tt old new before after f → after ≤ before + 16 * length b + 1
   cost_refused f t = cost_of 2 (omega arith) t.cost

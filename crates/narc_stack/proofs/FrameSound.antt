@@ -4,30 +4,24 @@ use Rattle.std.specs.Borrow.{Bor}
 use Rattle.std.proofs.Math.Nat.{mod-eq_of_lt}
 use Rattle.std.proofs.lemmas.Bool.{eqb-true}
 use Rattle.std.specs.Prelude.{List}
-use Rattle.narc_format.specs.Laws.{TailLaws}
 use Rattle.narc_compose.specs.declared.either.Either.{Either}
 use Rattle.narc_compose.specs.declared.either.Either.TheVariants.{Left, Right}
 use Rattle.narc_compose.specs.Seq.{seq_tail}
 use Rattle.narc_compose.specs.Measured.{measured}
 use Rattle.narc_compose.specs.Strip.{stripped, Chosen}
-use Rattle.narc_compose.specs.SeqTailLaws.{seq_tail_laws}
-use Rattle.narc_compose.specs.StripLaws.{stripped_tail_laws}
 use Rattle.narc_compose.specs.Union.{Side, Sides, united}
-use Rattle.narc_compose.specs.UnionTailLaws.{united_tail_laws}
-use Rattle.narc_list.specs.BytesLaws.{all_octets_laws}
-use Rattle.narc_list.specs.PadLaws.{padding_laws}
 use Rattle.narc_list.specs.Bytes.{all_octets}
 use Rattle.narc_list.specs.Pad.{padding}
 use Rattle.narc_packet.specs.Frame.{arp_type, ipv4_type}
 use Rattle.narc_packet.specs.PacketView.{PacketView, EthBodyView, Ipv4Body, OtherBody, eth_body_view}
 use Rattle.narc_packet.specs.declared.packet.Ipv4.{Ipv4}
-use Rattle.narc_eth.specs.ArpPacket.{arp_format}
-use Rattle.narc_eth.specs.EthernetHeader.{Header, eth_head}
+use Rattle.narc_eth.specs.EthernetHeader.{Header}
 use Rattle.narc_eth.proofs.HeaderLayout.{eth_head_layout}
 use Rattle.narc_eth.proofs.ArpLayout.{arp_layout}
-use Rattle.narc_stack.specs.Ipv4Part.{ipv4_part, ipv4_part_laws}
+use Rattle.narc_stack.specs.FramePart.{frame_part}
+use Rattle.narc_stack.specs.Ipv4Part.{ipv4_part}
 use Rattle.narc_stack.specs.RawFrame.{RawBody, RawFrame, body_of, type_of, raw_body, packet_of, raw_frame, SamePacket}
-use Rattle.narc_stack.specs.WholeFrame.{padded_arp, by_type, by_ipv4, ipv4_or_other, frame_body, header_and_body, whole_frame}
+use Rattle.narc_stack.specs.WholeFrame.{padded_arp, ipv4_or_other, frame_body, header_and_body, whole_frame}
 use Rattle.narc_stack.proofs.Ipv4Sound.{ipv4_sound}
 
 ipv4_part_sound : ipv4_part.sound
@@ -139,14 +133,9 @@ pub frame_sound : whole_frame.sound
 unfolding stripped
 frame_sound = record { part_sound = raw_sound; same = same_packet; chosen = λ c ok w a. chosen w a }
 
-pub frame_laws : TailLaws whole_frame
-frame_laws =
-    let here : Unit {0} → Unit {0} = λ c. c in
-    let padded = seq_tail_laws here (λ c a. 18) (λ c. Unit {0}) arp_format padding arp_layout.shape.laws padding_laws in
-    let other = united_tail_laws by_ipv4 (λ t. t < 2 ^ 64) ipv4_part all_octets ipv4_part_laws all_octets_laws in
-    let body = united_tail_laws by_type (λ t. t < 2 ^ 64) padded_arp ipv4_or_other padded other in
-    stripped_tail_laws packet_of (λ c p. raw_frame p) SamePacket header_and_body
-    (seq_tail_laws here (λ c (h : Header). h.1.1) (λ c. Unit {0}) eth_head frame_body eth_head_layout.shape.laws body)
+pub frame_part_sound : frame_part.sound
+unfolding frame_part
+frame_part_sound = frame_sound
 
 pub frame_valid : whole_frame.valid tt
 unfolding stripped seq_tail

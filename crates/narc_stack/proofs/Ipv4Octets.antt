@@ -10,11 +10,11 @@ use Rattle.narc_bits.proofs.NetworkOrder.{number_of-big_endian}
 use Rattle.narc_ipv4.specs.Header.{fragment_word_of}
 use Rattle.narc_ipv4.specs.HeaderOctets.{packet_of, IsHeader}
 use Rattle.narc_ipv4.specs.declared.as_header.IpHeader.{IpHeader}
-use Rattle.narc_stack.specs.declared.content.Content.{Content}
-use Rattle.narc_stack.specs.Ipv4.{content_of}
+use Rattle.narc_stack.specs.declared.content.ContentContext.{ContentContext}
+use Rattle.narc_stack.specs.Ipv4.{context_of}
 
 -- what the data is read with, in the octets
-abbrev pub content_at : (x : List ℕ) → Content
+abbrev pub content_at : (x : List ℕ) → ContentContext
 content_at x = record {
   ends = record { src = slice_range x 12 16; dst = slice_range x 16 20 };
   protocol = number_at x 9 1;
@@ -69,14 +69,14 @@ module _ (p : Ipv4View) (range : IsIpv4InRange p) (sum area_length content_lengt
       let is = fragment_is p.df p.mf p.offset range.offset in
       ap (λ n. is_fragment (nat_eq (n / 8192 % 2) 1) (n % 8192)) word_is ∙ ap (λ b. is_fragment b (w % 8192)) is.more ∙ ap (is_fragment p.mf) is.place
 
-content : (src dst : List ℕ) (protocol : ℕ) (fragment : Bool) (octets : ℕ) → Content
+content : (src dst : List ℕ) (protocol : ℕ) (fragment : Bool) (octets : ℕ) → ContentContext
 content src dst protocol fragment octets = record { ends = record { src = src; dst = dst }; protocol = protocol; fragment = fragment; octets = octets }
 
 -- what the octets of a header say
 pub record Says (h : IpHeader) (x : List ℕ) : Type 0 where
   pub header_is : header_length x ≡ h.length
   pub total_is : total_length x ≡ h.total
-  pub content_is : content_at x ≡ content_of h
+  pub content_is : content_at x ≡ context_of h
 
 pub header_says : (n : ℕ) (h : IpHeader) (o later : List ℕ) → IsHeader n h o → Says h (o ++ later)
 unfolding content
@@ -94,7 +94,7 @@ header_says n h o later k =
     let fits : 20 + la + lc < 2 ^ 16 = omega (arith, all, k.small) in
     let size : header_length x ≡ h.length = omega (arith, first_is p range k.sum la lc fits rest, k.size, words, bound) in
     let total : total_length x ≡ h.total = length_is p range k.sum la lc fits rest ∙ all in
-    let same : content_at x ≡ content_of h =
+    let same : content_at x ≡ context_of h =
     ap (λ s. content s (slice_range x 16 20) (number_at x 9 1) (is_fragment_in x) (total_length x - header_length x)) (src_is p range k.sum la lc fits rest)
     ∙ ap (λ s. content h.src s (number_at x 9 1) (is_fragment_in x) (total_length x - header_length x)) (dst_is p range k.sum la lc fits rest)
     ∙ ap (λ n. content h.src h.dst n (is_fragment_in x) (total_length x - header_length x)) (protocol_is p range k.sum la lc fits rest)

@@ -15,7 +15,7 @@ use Rattle.narc_ipv4.specs.HeaderOctets.{IsHeader}
 use Rattle.narc_ipv4.specs.HeaderOctets as head
 use Rattle.narc_ipv4.proofs.HeaderOctets.{header_size}
 use Rattle.narc_ipv4.specs.declared.as_header.IpHeader.{IpHeader}
-use Rattle.narc_stack.specs.Ipv4.{content_of, RawIpv4, body_of, ipv4_of, protocol_of}
+use Rattle.narc_stack.specs.Ipv4.{context_of, RawIpv4, body_of, ipv4_of, protocol_of}
 use Rattle.narc_stack.proofs.ContentRead.{IsHere, IsData, data_of_content, HasContent, content_of_data}
 use Rattle.narc_stack.proofs.Ipv4Read.{IsPacketRead, IsIpv4Read}
 
@@ -53,14 +53,14 @@ module _ (n : ℕ) (w : RawIpv4) (x : List ℕ) (each : IsOctets x) (q : IsPacke
   header : IsHeader n h q.front
   header = q.first
 
-  data_here : IsHere (content_of h) d
+  data_here : IsHere (context_of h) d
   data_here =
       let range = header.in_range in
       let total = header.small in
       record { ends = (range.src, range.dst); protocol = header.protocol; each = each_data; size = q.second.first.0; short = omega (arith, total) }
 
-  data_is : IsData (content_of h) (body_of h.protocol w.1.0) d
-  data_is = data_of_content (content_of h) d data_here w.1.0 q.second.first.1
+  data_is : IsData (context_of h) (body_of h.protocol w.1.0) d
+  data_is = data_of_content (context_of h) d data_here w.1.0 q.second.first.1
 
   header_same : ipv4_header (head.packet_of h) header.sum (length header.area) (h.total - h.length) ≡ ipv4_header (ipv4_view (ipv4_of w)) header.sum (length header.area) (length d)
   header_same =
@@ -168,13 +168,13 @@ module _ (p : Ipv4) (x : List ℕ) (each : IsOctets x) (k : IsPaddedIpv4 p x) wh
         sum_range = f.sum_range;
       }
 
-  here : IsHere (content_of top) f.content
+  here : IsHere (context_of top) f.content
   here =
       let r = f.in_range in
       record { ends = (r.src, r.dst); protocol = known; each = each_content; size = omega arith; short = omega (arith, f.fits) }
 
-  content_is : HasContent (content_of top) f.content here p.body
-  content_is = content_of_data (content_of top) f.content here p.body (record { protocol = refl; may_have_body = f.may_have_body; body = f.body; spelled = k.spelled.1 })
+  content_is : HasContent (context_of top) f.content here p.body
+  content_is = content_of_data (context_of top) f.content here p.body (record { protocol = refl; may_have_body = f.may_have_body; body = f.body; spelled = k.spelled.1 })
 
   packet_back : ipv4_of (top, (content_is.value, tt)) ≡ p
   unfolding with_body

@@ -19,9 +19,9 @@ use Rattle.narc_ipv4.specs.declared.as_header.IpHeader.{IpHeader}
 use Rattle.narc_options.proofs.AreaSound.{region_chosen}
 use Rattle.narc_ipv4.proofs.HeaderSound.{head_sound, length_five}
 use Rattle.narc_ipv4.proofs.HeaderChosen.{head_fields, head_back, head_size, head_moves, head_chosen, with_lengths, total_least}
-use Rattle.narc_stack.specs.declared.content.Content.{Content}
-use Rattle.narc_stack.specs.Content.{RawContent, IsContent, ip_content}
-use Rattle.narc_stack.specs.Ipv4.{content_of, zeros_of, IsPadded, RawIpv4, body_of, ipv4_of, protocol_of, octets_of, raw_content, raw_ipv4, SameIpv4, padded_content, header_and_content, ipv4_measured, ipv4_format}
+use Rattle.narc_stack.specs.declared.content.ContentContext.{ContentContext}
+use Rattle.narc_stack.specs.Content.{RawContent, IsContentContext, ip_content}
+use Rattle.narc_stack.specs.Ipv4.{context_of, zeros_of, IsPadded, RawIpv4, body_of, ipv4_of, protocol_of, octets_of, raw_content, raw_ipv4, SameIpv4, padded_content, header_and_content, ipv4_measured, ipv4_format}
 use Rattle.narc_stack.proofs.ContentSound.{content_region_sound, same_body, content_with, content_chosen}
 
 padded_sound : padded_content.sound
@@ -34,7 +34,7 @@ padded_sound = record {
 }
 
 -- a header that can be written gives contexts that are valid
-contexts_valid : (n : ℕ) (h : IpHeader) → ip_head.admits n h → IsPadded (content_of h, zeros_of h)
+contexts_valid : (n : ℕ) (h : IpHeader) → ip_head.admits n h → IsPadded (context_of h, zeros_of h)
 contexts_valid n h a =
     let f = head_fields n h a in
     let total = f.front.total in
@@ -53,10 +53,10 @@ unfolding stripped
 head_alike h k e = e
 
 -- the contexts of what is behind a header, wherever its options lie
-contexts_of : HeaderView → Content × ℕ
+contexts_of : HeaderView → ContentContext × ℕ
 contexts_of v = (record { ends = record { src = v.src; dst = v.dst }; protocol = v.protocol; fragment = is_fragment v.mf v.offset; octets = v.total - v.length }, 46 - v.total)
 
-same_contexts : (h k : IpHeader) → header_view h ≡ header_view k → ◌≡◌ {A = Content × ℕ} (content_of h, zeros_of h) (content_of k, zeros_of k)
+same_contexts : (h k : IpHeader) → header_view h ≡ header_view k → ◌≡◌ {A = ContentContext × ℕ} (context_of h, zeros_of h) (context_of k, zeros_of k)
 unfolding contexts_of
 same_contexts h k e = ap contexts_of e
 
@@ -146,23 +146,23 @@ header_numbers h a =
       small = f.front.total;
     }
 
-padded_region : (v : RawContent) (c : Content × ℕ) → padded_content.admits c (v, tt) → IsContent c.0 × (region (λ (c : Content). c.octets) ip_content).admits c.0 v
+padded_region : (v : RawContent) (c : ContentContext × ℕ) → padded_content.admits c (v, tt) → IsContentContext c.0 × (region (λ (c : ContentContext). c.octets) ip_content).admits c.0 v
 unfolding seq_tail
 padded_region v c a = (a.0.0, a.1)
 
-region_of : (c : Content) (v : RawContent) → ip_content.admits c v → length (ip_content.spelling c v) ≡ 8 * c.octets → (region (λ (c : Content). c.octets) ip_content).admits c v
+region_of : (c : ContentContext) (v : RawContent) → ip_content.admits c v → length (ip_content.spelling c v) ≡ 8 * c.octets → (region (λ (c : ContentContext). c.octets) ip_content).admits c v
 unfolding region
 region_of c v a h = record { admitted = a; filled = h }
 
-padded_of : (c : Content × ℕ) → IsPadded c → (v : RawContent) → (region (λ (c : Content). c.octets) ip_content).admits c.0 v → padded_content.admits c (v, tt)
+padded_of : (c : ContentContext × ℕ) → IsPadded c → (v : RawContent) → (region (λ (c : ContentContext). c.octets) ip_content).admits c.0 v → padded_content.admits c (v, tt)
 unfolding seq_tail padding
 padded_of c ok v a = (ok, a, tt)
 
-packet_admits : (n : ℕ) → n < 2 ^ 64 → (h : IpHeader) (v : RawContent) → ip_head.admits n h → padded_content.admits (content_of h, zeros_of h) (v, tt) → header_and_content.admits n (h, (v, tt))
+packet_admits : (n : ℕ) → n < 2 ^ 64 → (h : IpHeader) (v : RawContent) → ip_head.admits n h → padded_content.admits (context_of h, zeros_of h) (v, tt) → header_and_content.admits n (h, (v, tt))
 unfolding seq_tail
 packet_admits n ok h v a b = (ok, a, b)
 
-packet_parts : (n : ℕ) (w : RawIpv4) → header_and_content.admits n w → ip_head.admits n w.0 × padded_content.admits (content_of w.0, zeros_of w.0) w.1
+packet_parts : (n : ℕ) (w : RawIpv4) → header_and_content.admits n w → ip_head.admits n w.0 × padded_content.admits (context_of w.0, zeros_of w.0) w.1
 unfolding seq_tail
 packet_parts n w a = (a.1, a.2)
 
@@ -171,13 +171,13 @@ packet_chosen : (h : IpHeader) (v : RawContent) → header_and_content.admits 65
 packet_chosen h v a =
     let parts = packet_parts 65535 (h, (v, tt)) a in
     let head = header_numbers h parts.0 in
-    let region_is = padded_region v (content_of h, zeros_of h) parts.1 in
+    let region_is = padded_region v (context_of h, zeros_of h) parts.1 in
     let body = body_of h.protocol v in
     let few = head.few in
     let fits = head.fits in
     let most = head.most in
     let small = head.small in
-    let c = content_chosen (content_of h) region_is.0 (omega (arith, small)) v region_is.1 in
+    let c = content_chosen (context_of h) region_is.0 (omega (arith, small)) v region_is.1 in
     let octets = c.most in
     let k = (length h.options.spelled.now + 3) / 4 in
     let total = 20 + 4 * k + octets_of body in
@@ -185,10 +185,10 @@ packet_chosen h v a =
     let written = with_lengths h (20 + 4 * k) total (protocol_of body) in
     let top : ip_head.admits 65535 written = head_chosen 65535 h parts.0 k total (protocol_of body) (omega arith) few (omega arith) below c.known 65535 (omega (arith, below)) (lit< tt) in
     let context : total - (20 + 4 * k) ≡ octets_of body = omega arith in
-    let rest : (region (λ (c : Content). c.octets) ip_content).admits (content_of written) (raw_content body) =
-    subst (λ n. (region (λ (c : Content). c.octets) ip_content).admits (content_with (content_of h) (protocol_of body) n) (raw_content body)) (sym context)
-    (region_of (content_with (content_of h) (protocol_of body) (octets_of body)) (raw_content body) c.admitted c.size) in
-    let whole = packet_admits 65535 (lit< tt) written (raw_content body) top (padded_of (content_of written, zeros_of written) (contexts_valid 65535 written top) (raw_content body) rest) in
+    let rest : (region (λ (c : ContentContext). c.octets) ip_content).admits (context_of written) (raw_content body) =
+    subst (λ n. (region (λ (c : ContentContext). c.octets) ip_content).admits (content_with (context_of h) (protocol_of body) n) (raw_content body)) (sym context)
+    (region_of (content_with (context_of h) (protocol_of body) (octets_of body)) (raw_content body) c.admitted c.size) in
+    let whole = packet_admits 65535 (lit< tt) written (raw_content body) top (padded_of (context_of written, zeros_of written) (contexts_valid 65535 written top) (raw_content body) rest) in
     let size : (20 + 4 * k) % 256 ≡ 20 + 4 * k = omega (arith, few) in
     let all : (20 + 4 * k + octets_of body % 65536) % 65536 ≡ total = omega (arith, below) in
     let same : with_lengths h ((20 + 4 * k) % 256) ((20 + 4 * k + octets_of body % 65536) % 65536) (protocol_of body) ≡ written =

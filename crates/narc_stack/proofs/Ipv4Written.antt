@@ -29,13 +29,13 @@ use Rattle.narc_transport.specs.Written.{FitsTcp}
 use Rattle.narc_transport.specs.Parts.{udp_part, tcp_part}
 use Rattle.narc_transport.proofs.UdpWritten.{udp_written}
 use Rattle.narc_transport.proofs.TcpWritten.{tcp_written}
-use Rattle.narc_stack.specs.declared.content.Content.{Content}
+use Rattle.narc_stack.specs.declared.content.ContentContext.{ContentContext}
 use Rattle.narc_stack.specs.Content.{tcp_or_raw, ip_content}
-use Rattle.narc_stack.specs.Ipv4.{content_of, protocol_of, words_of, octets_of, raw_content, header_of}
+use Rattle.narc_stack.specs.Ipv4.{context_of, protocol_of, words_of, octets_of, raw_content, header_of}
 use Rattle.narc_stack.specs.Ipv4Part.{ipv4_part}
 use Rattle.narc_stack.proofs.ContentRead.{taken, not_taken}
 use Rattle.narc_stack.proofs.Ipv4Relation.{protocol_view}
-use Rattle.narc_stack.proofs.Canonical.{canonical_length, known_protocol}
+use Rattle.narc_stack.proofs.CanonicalContent.{canonical_length, known_protocol}
 
 -- the shortest area of options that are spelled so
 area_size : (l spelled : List ℕ) → l ≡ spelled → length (filled l) ≡ 4 * words_of (length spelled)
@@ -61,7 +61,7 @@ right_spelling f g a z true e w = cc
 right_spelling f g a z false e w = refl
 
 -- the data, where it is read with what its header says
-content_written : (c : Content) (b : IpBody) → IsEnds c.ends → c.protocol ≡ protocol_of b → c.octets ≡ smallest_length (ip_body_view b) → c.octets ≤ 65535 → MayHaveBody c.fragment (ip_body_view b)
+content_written : (c : ContentContext) (b : IpBody) → IsEnds c.ends → c.protocol ≡ protocol_of b → c.octets ≡ smallest_length (ip_body_view b) → c.octets ≤ 65535 → MayHaveBody c.fragment (ip_body_view b)
     → IsWellFormedIpBody (ip_body_view b) → SpellsIpBody b → ip_content.spelling c (raw_content b) ≡ bits (canonical_ip_body c.ends.src c.ends.dst (ip_body_view b))
 unfolding united udp_part tcp_part all_octets
 content_written c (ip_body.Udp u) ends protocol size short may w s =
@@ -165,11 +165,11 @@ module _ (p : Ipv4) (w : IsWellFormedIpv4 (ipv4_view p)) (s : SpellsIpv4 p) wher
       let dst = r.dst.0 in
       omega (arith, length-append (ipv4_header v sum (length area) (length data_octets) ++ area) data_octets, length-append (ipv4_header v sum (length area) (length data_octets)) area, length-append p.src p.dst, src, dst, total_is)
 
-  spelled_data : ip_content.spelling (content_of h) (raw_content p.body) ≡ bits data_octets
+  spelled_data : ip_content.spelling (context_of h) (raw_content p.body) ≡ bits data_octets
   spelled_data =
       let r = w.in_range in
       let small : h.total - h.length ≡ smallest_length v.body = omega (arith, length_is, total_is, canonical_length p.src p.dst v.body) in
-      content_written (content_of h) p.body (r.src, r.dst) refl small (omega (arith, total_is, all)) w.may_have_body w.body s.1
+      content_written (context_of h) p.body (r.src, r.dst) refl small (omega (arith, total_is, all)) w.may_have_body w.body s.1
 
   pub ipv4_written : ipv4_part.spelling tt p ≡ bits (canonical_ipv4 v ++ replicate (46 - length (canonical_ipv4 v)) 0)
   unfolding ipv4_part stripped measured seq_tail region padding

@@ -9,6 +9,8 @@ pub mod Ipv4Sound
 pub mod FrameSound
 pub mod FrameSeen
 pub mod FrameAnswers
+pub mod CanonicalSums
+pub mod CanonicalContent
 pub mod Canonical
 pub mod FrameAdmits
 pub mod Ipv4Written

@@ -9,8 +9,9 @@ use Rattle.narc_packet.specs.Canonical.{padded, canonical_eth_body, canonical_fr
 use Rattle.narc_packet.specs.Ipv4.{canonical_ipv4}
 use Rattle.narc_packet.specs.Ranges.{IsMac}
 use Rattle.narc_packet.specs.WellFormed.{IsWellFormedEthBody, IsWellFormed}
+use Rattle.narc_eth.proofs.ArpLayout.{arp_layout}
 use Rattle.narc_stack.specs.Admitted.{IsAdmittedBody, IsAdmitted}
-use Rattle.narc_stack.proofs.Canonical.{arp_length, canonical_few, canonical_is_frame}
+use Rattle.narc_stack.proofs.Canonical.{canonical_few, canonical_is_frame}
 use Rattle.narc_stack.proofs.FrameAdmits.{admitted_of}
 
 -- the octets behind the header
@@ -31,7 +32,7 @@ padded_length : (l : List ℕ) → length (padded l) ≡ length l + (46 - length
 padded_length l = omega (arith, length-append l (replicate (46 - length l) 0), length-replicate {A = ℕ} (46 - length l) 0)
 
 body_small : (b : EthBodyView) → IsWellFormedEthBody b → 14 + length (canonical_eth_body b) ≤ MAX_FRAME
-body_small (ArpBody a) h = omega (arith, padded_length (arp_octets a), arp_length a h)
+body_small (ArpBody a) h = omega (arith, padded_length (arp_octets a), arp_layout.shape.sized a h)
 body_small (Ipv4Body p) h = omega (arith, padded_length (canonical_ipv4 p), canonical_few p h)
 body_small (OtherBody t payload) h = h.3
 

@@ -9,18 +9,19 @@ use Rattle.narc_compose.specs.Measured.{measured}
 use Rattle.narc_list.specs.Region.{region}
 use Rattle.narc_packet.specs.PacketView.{ipv4_view}
 use Rattle.narc_packet.specs.Ipv4.{is_fragment}
+use Rattle.narc_packet.specs.declared.limits.TheConstants.{MAX_LENGTH}
 use Rattle.narc_packet.specs.declared.packet.IpBody.{IpBody}
 use Rattle.narc_packet.specs.declared.packet.IpBody.TheVariants as ip_body
 use Rattle.narc_packet.specs.declared.packet.Ipv4.{Ipv4}
 use Rattle.narc_packet.specs.declared.packet.Tcp.{Tcp}
 use Rattle.narc_ipv4.specs.Header.{ip_head}
 use Rattle.narc_ipv4.specs.declared.as_header.IpHeader.{IpHeader}
-use Rattle.narc_stack.specs.declared.content.Content.{Content}
-use Rattle.narc_stack.specs.Content.{RawContent, IsContent, ip_content}
+use Rattle.narc_stack.specs.declared.content.ContentContext.{ContentContext}
+use Rattle.narc_stack.specs.Content.{RawContent, IsContentContext, ip_content}
 
 -- what the data is read with, and the padding that fills a frame of 60 octets
-abbrev pub content_of : IpHeader → Content
-content_of h = record {
+abbrev pub context_of : IpHeader → ContentContext
+context_of h = record {
   ends = record { src = h.src; dst = h.dst };
   protocol = h.protocol;
   fragment = is_fragment h.mf h.offset;
@@ -30,8 +31,8 @@ content_of h = record {
 abbrev pub zeros_of : IpHeader → ℕ
 zeros_of h = 46 - h.total
 
-abbrev pub IsPadded : Content × ℕ → Type 0
-IsPadded c = IsContent c.0 × (c.1 < 2 ^ 64)
+abbrev pub IsPadded : ContentContext × ℕ → Type 0
+IsPadded c = IsContentContext c.0 × (c.1 < 2 ^ 64)
 
 abbrev pub RawIpv4 : Type 0
 RawIpv4 = IpHeader × (RawContent × Unit {0})
@@ -108,17 +109,17 @@ raw_ipv4 p = (header_of p, (raw_content p.body, tt))
 abbrev pub SameIpv4 : Ipv4 → Ipv4 → Type 0
 SameIpv4 p q = ipv4_view p ≡ ipv4_view q
 
-abbrev pub padded_content : Meaning (Content × ℕ) (RawContent × Unit {0})
+abbrev pub padded_content : Meaning (ContentContext × ℕ) (RawContent × Unit {0})
 padded_content =
-    seq_tail {C = Content × ℕ} {CA = Content} {CB = ℕ} (λ c. c.0) (λ c v. c.1) IsPadded
-    (region (λ (c : Content). c.octets) ip_content) padding
+    seq_tail {C = ContentContext × ℕ} {CA = ContentContext} {CB = ℕ} (λ c. c.0) (λ c v. c.1) IsPadded
+    (region (λ (c : ContentContext). c.octets) ip_content) padding
 
 abbrev pub header_and_content : Meaning ℕ RawIpv4
 header_and_content =
-    seq_tail {C = ℕ} {CA = ℕ} {CB = Content × ℕ} (λ n. n) (λ n h. (content_of h, zeros_of h)) (λ n. n < 2 ^ 64) ip_head padded_content
+    seq_tail {C = ℕ} {CA = ℕ} {CB = ContentContext × ℕ} (λ n. n) (λ n h. (context_of h, zeros_of h)) (λ n. n < 2 ^ 64) ip_head padded_content
 
 abbrev pub ipv4_measured : Meaning (Unit {0}) RawIpv4
-ipv4_measured = measured (λ c n. n) (λ c. 65535) (λ c. Unit {0}) header_and_content
+ipv4_measured = measured (λ c n. n) (λ c. MAX_LENGTH) (λ c. Unit {0}) header_and_content
 
 -- what `Ipv4Format` means
 abbrev pub ipv4_format : Meaning (Unit {0}) Ipv4

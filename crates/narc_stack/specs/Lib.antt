@@ -4,5 +4,6 @@ pub mod Ipv4
 pub mod Ipv4Part
 pub mod RawFrame
 pub mod WholeFrame
+pub mod FramePart
 pub mod Admitted
 pub mod Judgement

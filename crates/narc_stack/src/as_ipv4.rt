@@ -17,11 +17,13 @@ fn words(octets: usize) -> usize
     octets.div_ceil(4)
 }
 
-/// The sum in 16 bits.
+/// The lowest 16 bits of the sum.
+///
+/// `choose` answers for every packet, also for one that is too long to be written, whose lengths have more bits.
 fn sum_of(a: usize, b: usize) -> u16
     ensures { result ≡ (a + b) % 65536 }
 {
-    ((a % 65536 + b % 65536) % 65536) as u16
+    ((a % 65536) as u16).wrapping_add((b % 65536) as u16)
 }
 
 /// The protocol, how many octets, in 16 bits, and the value of the data that is written.

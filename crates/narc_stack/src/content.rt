@@ -1,6 +1,6 @@
 //! The data of an IPv4 packet.
 ghost use Rattle.std.specs.Prelude.{◌≡◌, ℕ};
-ghost use Rattle.narc_stack.specs.Content.{by_udp, by_tcp, IsContent};
+ghost use Rattle.narc_stack.specs.Content.{by_udp, by_tcp, IsContentContext};
 
 use narc_compose::{Either, Parted, Pick, Union};
 use narc_list::{Bytes, Count};
@@ -9,7 +9,7 @@ use narc_transport::{Ends, TcpPart, TcpWithOffset, UdpPart};
 
 /// What the data of an IPv4 packet is read with.
 #[derive(Clone, Copy, Drop)]
-pub struct Content {
+pub struct ContentContext {
     pub ends: Ends,
     pub protocol: u8,
     /// More fragments follow, or this is not the first.
@@ -26,14 +26,14 @@ pub(crate) type RawContent<'a> = Either<Udp<'a>, Either<TcpWithOffset<'a>, &'a [
 /// A UDP datagram, where the packet has the protocol 17 and is no fragment.
 pub struct ByUdp;
 
-impl Pick<(Ends, usize), Content> for ByUdp {
-    type Ctx = Content;
+impl Pick<(Ends, usize), ContentContext> for ByUdp {
+    type Ctx = ContentContext;
 
     ghost pick_of = { by_udp };
 
-    ghost valid = { IsContent };
+    ghost valid = { IsContentContext };
 
-    fn pick(ctx: Content) -> Either<(Ends, usize), Content> {
+    fn pick(ctx: ContentContext) -> Either<(Ends, usize), ContentContext> {
         if ctx.protocol == 17 && !ctx.fragment {
             Either::Left((ctx.ends, ctx.octets))
         } else {
@@ -46,13 +46,13 @@ impl Pick<(Ends, usize), Content> for ByUdp {
 pub struct ByTcp;
 
 impl Pick<(Ends, usize), ()> for ByTcp {
-    type Ctx = Content;
+    type Ctx = ContentContext;
 
     ghost pick_of = { by_tcp };
 
-    ghost valid = { IsContent };
+    ghost valid = { IsContentContext };
 
-    fn pick(ctx: Content) -> Either<(Ends, usize), ()> {
+    fn pick(ctx: ContentContext) -> Either<(Ends, usize), ()> {
         if ctx.protocol == 6 && !ctx.fragment {
             Either::Left((ctx.ends, ctx.octets))
         } else {
@@ -65,19 +65,19 @@ impl Pick<(Ends, usize), ()> for ByTcp {
 pub struct ContentOctets;
 
 impl Count for ContentOctets {
-    type Ctx = Content;
+    type Ctx = ContentContext;
 
     ghost octets_of = { λ c. c.octets };
 
     ghost count_of = { λ c. c.octets };
 
-    ghost valid = { IsContent };
+    ghost valid = { IsContentContext };
 
-    fn octets(ctx: Content) -> usize {
+    fn octets(ctx: ContentContext) -> usize {
         ctx.octets
     }
 
-    fn count(ctx: Content) -> usize {
+    fn count(ctx: ContentContext) -> usize {
         ctx.octets
     }
 }

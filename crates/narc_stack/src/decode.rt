@@ -5,10 +5,10 @@ ghost use Rattle.narc_packet.specs.PacketView.{view};
 ghost use Rattle.narc_packet.specs.WellFormed.{IsWellFormed, SpellsOptions};
 ghost use Rattle.narc_stack.specs.AnswerView.{answer_view};
 
-use crate::frame::Frame;
+use crate::frame_part::FramePart;
 use crate::refusal::Refusal;
 use narc_bits::{Cursor, MAX_FRAME, Steps};
-use narc_format::Tail;
+use narc_compose::Part;
 use narc_packet::Packet;
 use std::sync::ledger::Ledger;
 
@@ -29,7 +29,7 @@ pub fn decode_frame<'a, L: Ledger>(
     ensures cost { steps.new ≤ steps.old + 16 * length bytes.now + 1 }
 {
     let mut cursor = Cursor::new(bytes);
-    match <Frame as Tail<Cursor<'a>>>::read((), &mut cursor, steps) {
+    match <FramePart as Part<Cursor<'a>>>::read((), &mut cursor, steps) {
         Ok(packet) => Ok(packet),
         Err(fault) => Err(Refusal {
             field: fault.field,

@@ -1,13 +1,15 @@
 //! IPv4 packets.
 ghost use Rattle.std.specs.Prelude.{◌≡◌, ℕ, ◌-◌, ◌<◌, ◌^◌};
-ghost use Rattle.narc_stack.specs.Content.{IsContent};
-ghost use Rattle.narc_stack.specs.Ipv4.{content_of, zeros_of, IsPadded};
+ghost use Rattle.narc_packet.specs.declared.limits.TheConstants.{MAX_LENGTH};
+ghost use Rattle.narc_stack.specs.Content.{IsContentContext};
+ghost use Rattle.narc_stack.specs.Ipv4.{context_of, zeros_of, IsPadded};
 
 use crate::as_ipv4::AsIpv4;
-use crate::content::{Content, ContentOctets, IpContent};
+use crate::content::{ContentContext, ContentOctets, IpContent};
 use narc_compose::{Carry, Measure, Measured, PartedFormat, SeqTail, Strip};
 use narc_ipv4::{IpHeadPart, IpHeader};
 use narc_list::{Pad, Region};
+use narc_packet::MAX_LENGTH;
 use narc_transport::Ends;
 
 /// The data in as many octets as the header says, and any padding behind it.
@@ -27,7 +29,7 @@ impl Measure<usize> for OctetsThere {
 
     ghost measured_of = { λ c n. n };
 
-    ghost written_of = { λ c. 65535 };
+    ghost written_of = { λ c. MAX_LENGTH };
 
     ghost valid = { λ c. Unit {0} };
 
@@ -36,19 +38,19 @@ impl Measure<usize> for OctetsThere {
     }
 
     fn written(_ctx: ()) -> usize {
-        65535
+        MAX_LENGTH
     }
 }
 
 /// The data is read with what the header says, and padding fills a frame of 60 octets behind it.
 pub struct ContentOf;
 
-impl<'a> Carry<IpHeader<'a>, usize, (Content, usize)> for ContentOf {
+impl<'a> Carry<IpHeader<'a>, usize, (ContentContext, usize)> for ContentOf {
     type Ctx = usize;
 
     ghost first_of = { λ n. n };
 
-    ghost second_of = { λ n h. (content_of h, zeros_of h) };
+    ghost second_of = { λ n h. (context_of h, zeros_of h) };
 
     ghost valid = { λ n. n < 2 ^ 64 };
 
@@ -59,26 +61,26 @@ impl<'a> Carry<IpHeader<'a>, usize, (Content, usize)> for ContentOf {
         ctx
     }
 
-    fn second(_ctx: usize, header: &IpHeader<'a>) -> (Content, usize) {
+    fn second(_ctx: usize, header: &IpHeader<'a>) -> (ContentContext, usize) {
         let ends = Ends {
             src: header.src,
             dst: header.dst,
         };
-        let content = Content {
+        let context = ContentContext {
             ends,
             protocol: header.protocol,
             fragment: header.mf || header.offset != 0,
             octets: header.total.saturating_sub(u16::from(header.length)) as usize,
         };
-        (content, 46u16.saturating_sub(header.total) as usize)
+        (context, 46u16.saturating_sub(header.total) as usize)
     }
 }
 
 /// The padding behind the data.
 pub struct ZerosBehind;
 
-impl<V> Carry<V, Content, usize> for ZerosBehind {
-    type Ctx = (Content, usize);
+impl<V> Carry<V, ContentContext, usize> for ZerosBehind {
+    type Ctx = (ContentContext, usize);
 
     ghost first_of = { λ c. c.0 };
 
@@ -86,11 +88,11 @@ impl<V> Carry<V, Content, usize> for ZerosBehind {
 
     ghost valid = { IsPadded };
 
-    fn first(ctx: (Content, usize)) -> Content {
+    fn first(ctx: (ContentContext, usize)) -> ContentContext {
         ctx.0
     }
 
-    fn second(ctx: (Content, usize), _value: &V) -> usize {
+    fn second(ctx: (ContentContext, usize), _value: &V) -> usize {
         ctx.1
     }
 }

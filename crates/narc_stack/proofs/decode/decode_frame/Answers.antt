@@ -1,6 +1,6 @@
 use Rattle.std.proofs.Common.{arith}
 use Rattle.narc_bits.proofs.Octets.{IsOctets-from_index}
-use Rattle.narc_stack.proofs.FrameSound.{frame_sound}
+use Rattle.narc_stack.proofs.FrameSound.{frame_part_sound}
 use Rattle.narc_packet.specs.PacketView.{view}
 use Rattle.narc_stack.proofs.FrameRelation.{frame_stands}
 use Rattle.narc_stack.proofs.WellFormed.{well_formed_of}
@@ -8,7 +8,7 @@ use Rattle.narc_stack.proofs.FrameAnswers.{only_packet, only_refusal, stood_whol
 use Rattle.narc_stack.proofs.decode.decode_frame.Goals as goal
 
 pub read-requires-clause-sound : goal.read-requires-clause-sound
-read-requires-clause-sound g c = frame_sound
+read-requires-clause-sound g c = frame_part_sound
 
 pub returns-in-Ok-clause-only : goal.returns-in-Ok-clause-only
 returns-in-Ok-clause-only g c =

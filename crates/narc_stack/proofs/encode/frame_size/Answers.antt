@@ -1,10 +1,10 @@
 use Rattle.std.proofs.Common.{arith}
 use Rattle.narc_stack.proofs.Encoded.{encoded_admits, spelling_size, spelling_small, encoded_small}
-use Rattle.narc_stack.proofs.FrameSound.{frame_sound}
+use Rattle.narc_stack.proofs.FrameSound.{frame_part_sound}
 use Rattle.narc_stack.proofs.encode.frame_size.Goals as goal
 
 pub size-requires-clause-sound : goal.size-requires-clause-sound
-size-requires-clause-sound c = frame_sound
+size-requires-clause-sound c = frame_part_sound
 
 pub size-requires-clause-admitted : goal.size-requires-clause-admitted
 size-requires-clause-admitted c = encoded_admits c.args.packet.now c.requires.well_formed c.requires.spelled

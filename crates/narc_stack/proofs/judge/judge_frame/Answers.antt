@@ -16,3 +16,9 @@ returns-in-Err-clause-only g c = record {
   only = c.decode_frame.ensures.only;
   same = ap (λ r. judgement_of (answer_view r)) c.in-Err.is;
 }
+
+pub returns-in-Ok-clause-cost : goal.returns-in-Ok-clause-cost
+returns-in-Ok-clause-cost g c = c.decode_frame.ensures.cost
+
+pub returns-in-Err-clause-cost : goal.returns-in-Err-clause-cost
+returns-in-Err-clause-cost g c = c.decode_frame.ensures.cost
