@@ -10,3 +10,7 @@ put_slice-requires-clause-enough c = omega (arith, c.requires.enough, length-bit
 pub returns-clause-moved : goal.returns-clause-moved
 unfolding all_octets
 returns-clause-moved c = omega (arith, c.put_slice.ensures.moved, length-bits c.args.value.now.now)
+
+pub returns-clause-put : goal.returns-clause-put
+unfolding all_octets
+returns-clause-put c = c.put_slice.ensures.put
