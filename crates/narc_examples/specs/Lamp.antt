@@ -1,6 +1,6 @@
 -- The bits of a lamp's state.
 use Rattle.std.specs.Prelude.{◌≡◌, ℕ, ◌≤◌, Bool, List, ◌∷◌, ◌++◌}
-use Rattle.narc_bits.specs.Bits.{bits_of_number}
+use Rattle.narc_rules.specs.Bits.{bits_of_number}
 use Rattle.narc_examples.specs.declared.lamp.Colour.{Colour}
 use Rattle.narc_examples.specs.declared.lamp.Colour.TheVariants.{Red, Green}
 

@@ -1,2 +1,3 @@
 pub mod Lamp
 pub mod Sample
+pub mod Vxlan

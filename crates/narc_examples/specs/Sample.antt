@@ -1,7 +1,7 @@
 -- What was measured, and the kind and the member of the union that it is.
 use Rattle.std.specs.Prelude.{ℕ, List}
-use Rattle.narc_compose.specs.declared.either.Either.{Either}
-use Rattle.narc_compose.specs.declared.either.Either.TheVariants.{Left, Right}
+use Rattle.narc_rules.specs.Either.{Either}
+use Rattle.narc_rules.specs.Either.TheVariants.{Left, Right}
 use Rattle.narc_examples.specs.declared.message.Kind.{Kind}
 use Rattle.narc_examples.specs.declared.message.Kind.TheVariants as kind
 use Rattle.narc_examples.specs.declared.message.Sample.{Sample}

@@ -1,18 +1,15 @@
 //! A lamp that tells its name, with a checksum.
-#![tactic(auto, unfolding(narc_compose::specs::Gap::gapped, narc_compose::specs::Measured::measured, narc_compose::specs::Seq::seq, narc_list::specs::Bytes::all_octets, narc_list::specs::Region::region, narc_scalar::specs::Constant::constant, narc_scalar::specs::Flag::flag, narc_scalar::specs::Names::enumerated, narc_scalar::specs::Tested::tested, narc_scalar::specs::Word::word, narc_sum::specs::Checked::checked))]
+#![tactic(auto, using(narc_rules::proofs::SizedBytes::sized_bytes_sound), unfolding(narc_rules::specs::Meanings::all_octets, narc_rules::specs::Meanings::checked, narc_rules::specs::Meanings::constant, narc_rules::specs::Meanings::flag, narc_rules::specs::Meanings::gapped, narc_rules::specs::Meanings::measured, narc_rules::specs::Meanings::enumerated, narc_rules::specs::Meanings::region, narc_rules::specs::Meanings::seq, narc_rules::specs::Meanings::tested, narc_rules::specs::Meanings::word))]
 
-ghost use Rattle.std.specs.Prelude.{◌≡◌, ◌*◌, ◌<◌, ◌≤◌, ◌^◌, length};
-ghost use Rattle.narc_bits.specs.Bits.{bits, overlay};
-ghost use Rattle.narc_format.specs.Answer.{IsFrontAnswer};
+ghost use Rattle.std.specs.Prelude.{◌≡◌, ◌*◌, ◌≤◌, length};
+ghost use Rattle.narc_rules.specs.Bits.{bits, overlay};
+ghost use Rattle.narc_rules.specs.Answer.{IsFrontAnswer};
 
-use crate::lamp::{Lamp, State, lamp_is_sound};
-use narc_bits::{Cursor, MAX_FRAME, Writer};
-use narc_compose::{Carry, Gap, Measure, Measured, Seq, Then};
-use narc_format::{Fault, Format, Front, read_front};
-use narc_layout::laws::{format_is_holed, format_is_wide};
-use narc_list::{Bytes, Count, Region};
-use narc_scalar::Word;
-use narc_sum::{Checked, NoPseudo};
+use crate::lamp::{Lamp, State, lamp_is_its_bits, lamp_is_sound};
+use narc_rules::{
+    Checked, Cursor, Fault, Format, Front, Gap, MAX_FRAME, NoPseudo, NumberFirst, Seq, SizedBytes,
+    Then, Word, Writer, format_is_holed, format_is_wide, read_front,
+};
 
 /// The lamp's state, a checksum over all octets, and the lamp's name.
 pub type Beacon = Checked<Fields, NoPseudo>;
@@ -20,67 +17,10 @@ pub type Beacon = Checked<Fields, NoPseudo>;
 type Fields = Then<Gap<Lamp>, Name>;
 
 /// How many octets the name has, in one octet, and the name.
-type Name = Seq<Word<8>, Region<Measured<Bytes, AnyNumber>, AsMany>, LengthFirst>;
+type Name = Seq<Word<8>, SizedBytes, NumberFirst>;
 
 /// The state, and the length of the name with the name.
 pub type Told<'a> = (State, (u64, &'a [u8]));
-
-/// The length is the context of what is behind it.
-pub struct LengthFirst;
-
-impl Carry<u64, (), usize> for LengthFirst {
-    type Ctx = ();
-
-    ghost first_of = { λ c. c };
-
-    ghost second_of = { λ c octets. octets };
-
-    ghost valid = { λ c. Unit {0} };
-
-    fn first(_ctx: ()) {}
-
-    fn second(_ctx: (), octets: &u64) -> usize {
-        *octets as usize
-    }
-}
-
-/// As many octets as the context says.
-pub struct AsMany;
-
-impl Count for AsMany {
-    type Ctx = usize;
-
-    ghost octets_of = { λ c. c };
-
-    ghost count_of = { λ c. c };
-
-    ghost valid = { λ c. c < 2 ^ 64 };
-
-    fn octets(ctx: usize) -> usize {
-        ctx
-    }
-
-    fn count(ctx: usize) -> usize {
-        ctx
-    }
-}
-
-/// However many octets there are, the name needs no context.
-pub struct AnyNumber;
-
-impl Measure<()> for AnyNumber {
-    type Ctx = usize;
-
-    ghost measured_of = { λ c octets. tt };
-
-    ghost written_of = { λ c. tt };
-
-    ghost valid = { λ c. c < 2 ^ 64 };
-
-    fn measured(_ctx: usize, _octets: usize) {}
-
-    fn written(_ctx: usize) {}
-}
 
 /// What the lamp tells at the front of the octets, or why it tells nothing: the one answer.
 pub fn read_beacon<'a>(octets: &'a [u8]) -> Result<Front<Told<'a>>, Fault>
@@ -111,6 +51,15 @@ pub fn beacon_is_sound()
     ensures { ⟦<Beacon as Format<Cursor<'static>>>⟧.meaning.sound }
 {
     lamp_is_sound();
+    lamp_is_its_bits();
+    fields_are_sound();
     format_is_wide::<Cursor<'static>, Lamp>();
     format_is_holed::<Cursor<'static>, Fields>();
+}
+
+fn fields_are_sound()
+    ensures { ⟦<Fields as Format<Cursor<'static>>>⟧.meaning.sound }
+{
+    lamp_is_sound();
+    format_is_wide::<Cursor<'static>, Lamp>();
 }

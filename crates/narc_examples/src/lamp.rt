@@ -1,19 +1,19 @@
 //! A lamp's state, in 16 bits.
-#![tactic(auto, unfolding(narc_compose::specs::Seq::seq, narc_scalar::specs::Constant::constant, narc_scalar::specs::Flag::flag, narc_scalar::specs::Names::enumerated, narc_scalar::specs::Tested::tested, narc_scalar::specs::Word::word))]
+#![tactic(auto, unfolding(narc_rules::specs::Meanings::seq, narc_rules::specs::Meanings::constant, narc_rules::specs::Meanings::flag, narc_rules::specs::Meanings::enumerated, narc_rules::specs::Meanings::tested, narc_rules::specs::Meanings::word))]
 
 ghost use Rattle.std.specs.Prelude.{◌≡◌, ◌↔◌, ℕ, Bool, List, ◌<◌, ◌≤◌, length, nat_lt, [], ◌∷◌, refl};
-ghost use Rattle.narc_bits.specs.Bits.{bits, overlay};
-ghost use Rattle.narc_format.specs.Answer.{IsFrontAnswer};
-ghost use Rattle.narc_scalar.specs.Names.{named_in};
-ghost use Rattle.narc_scalar.specs.NamesLaws.{exact_table};
+ghost use Rattle.narc_rules.specs.Bits.{bits, overlay};
+ghost use Rattle.narc_rules.specs.Answer.{IsFrontAnswer};
+ghost use Rattle.narc_rules.specs.Names.{named_in};
+ghost use Rattle.narc_rules.specs.NamesLaws.{exact_table};
 ghost use Rattle.narc_examples.specs.Lamp.{IsLamp, colour_number};
 ghost use Rattle.narc_examples.specs.declared.lamp.Colour.{Colour};
 ghost use Rattle.narc_examples.specs.declared.lamp.Colour.TheVariants.{Red, Green};
 
-use narc_bits::{Cursor, MAX_FRAME, Writer};
-use narc_compose::Then;
-use narc_format::{Fault, Format, Front, read_front};
-use narc_scalar::{Const, EnumOf, Flag, Names, Test, Where, Word};
+use narc_rules::{
+    Const, Cursor, EnumOf, Fault, Flag, Format, Front, MAX_FRAME, Names, Test, Then, Where, Word,
+    Writer, read_front,
+};
 
 /// 4 bits version, always 2; one bit that is 1 where the lamp is lit; 3 bits colour; 8 bits brightness, at most 100.
 pub type Lamp = Then<
@@ -24,7 +24,7 @@ pub type Lamp = Then<
 /// Whether the lamp is lit, its colour and its brightness, behind the version.
 pub type State = ((), (bool, (Colour, u64)));
 
-#[derive(Debug, Drop, PartialEq, Eq)]
+#[derive(Drop, PartialEq, Eq)]
 pub enum Colour {
     Red,
     Green,
@@ -83,7 +83,7 @@ pub fn read_lamp(octets: &[u8]) -> Result<Front<State>, Fault>
 }
 
 /// Writes the state into the first 2 octets of the room.
-#[tactic(auto, unfolding(narc_bits::specs::Bits::bits_of_number, narc_compose::specs::Seq::seq, narc_scalar::specs::Constant::constant, narc_scalar::specs::Flag::flag, narc_scalar::specs::Names::enumerated, narc_scalar::specs::Tested::tested, narc_scalar::specs::Word::word))]
+#[tactic(auto, unfolding(narc_rules::specs::Meanings::bits_of_number, narc_rules::specs::Meanings::seq, narc_rules::specs::Meanings::constant, narc_rules::specs::Meanings::flag, narc_rules::specs::Meanings::enumerated, narc_rules::specs::Meanings::tested, narc_rules::specs::Meanings::word))]
 pub fn write_lamp(state: &State, room: &mut [u8])
     requires bright { state.now.1.1.1 < 101 }
     requires small { length room.old ≤ MAX_FRAME }

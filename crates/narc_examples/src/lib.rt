@@ -3,6 +3,9 @@
 
 pub mod beacon;
 pub mod lamp;
+pub mod lite;
 pub mod message;
+pub mod readings;
 #[cfg(test)]
 mod tests;
+pub mod vxlan;

@@ -1,20 +1,19 @@
 //! A station's message: what it measured, and a note behind it.
-#![tactic(auto, unfolding(narc_compose::specs::Seq::seq, narc_compose::specs::Seq::seq_tail, narc_compose::specs::Strip::stripped, narc_compose::specs::Union::united, narc_list::specs::Bytes::all_octets, narc_scalar::specs::Constant::constant, narc_scalar::specs::Names::enumerated, narc_scalar::specs::Octets::fixed_octets, narc_scalar::specs::Tested::tested, narc_scalar::specs::Word::word))]
+#![tactic(auto, unfolding(narc_rules::specs::Meanings::all_octets, narc_rules::specs::Meanings::constant, narc_rules::specs::Meanings::enumerated, narc_rules::specs::Meanings::fixed_octets, narc_rules::specs::Meanings::seq, narc_rules::specs::Meanings::seq_tail, narc_rules::specs::Meanings::stripped, narc_rules::specs::Meanings::tested, narc_rules::specs::Meanings::united, narc_rules::specs::Meanings::word))]
 
 ghost use Rattle.std.specs.Prelude.{◌≡◌, ◌*◌, ◌≤◌, ◌&&◌, length, nat_lt, [], ◌∷◌, refl};
-ghost use Rattle.narc_bits.specs.Bits.{bits, overlay};
-ghost use Rattle.narc_compose.specs.declared.either.Either.TheVariants.{Left, Right};
-ghost use Rattle.narc_format.specs.Answer.{IsAllAnswer};
-ghost use Rattle.narc_scalar.specs.Names.{named_in};
-ghost use Rattle.narc_scalar.specs.NamesLaws.{exact_table};
+ghost use Rattle.narc_rules.specs.Bits.{bits, overlay};
+ghost use Rattle.narc_rules.specs.Either.TheVariants.{Left, Right};
+ghost use Rattle.narc_rules.specs.Answer.{IsAllAnswer};
+ghost use Rattle.narc_rules.specs.Names.{named_in};
+ghost use Rattle.narc_rules.specs.NamesLaws.{exact_table};
 ghost use Rattle.narc_examples.specs.Sample.{sample_of, raw_sample};
 ghost use Rattle.narc_examples.specs.declared.message.Kind.TheVariants.{Temperature, Place};
 
-use narc_bits::{Cursor, MAX_FRAME, Writer};
-use narc_compose::{Carry, Choose, Either, NoContext, Pick, Seq, SeqTail, Strip, Then, Union};
-use narc_format::{Fault, Tail, read_all};
-use narc_list::Bytes;
-use narc_scalar::{Const, EnumOf, Names, Octets4, Test, Where, Word};
+use narc_rules::{
+    Bytes, Carry, Choose, Const, Cursor, Either, EnumOf, Fault, MAX_FRAME, Names, NoContext,
+    Octets4, Pick, Seq, SeqTail, Strip, Tail, Test, Then, Union, Where, Word, Writer, read_all,
+};
 
 // octet 0     0x7e
 // octet 1     station, 1 to 250
@@ -32,13 +31,13 @@ type RawSample = Seq<EnumOf<Word<8>, Kinds>, Union<ByKind, Word<16>, Octets4>, K
 /// What a message says: the station, what was measured, and the note.
 pub type Said<'a> = (((), (u64, Sample)), &'a [u8]);
 
-#[derive(Clone, Copy, Debug, PartialEq, Eq)]
+#[derive(Clone, Copy)]
 pub enum Kind {
     Temperature,
     Place,
 }
 
-#[derive(Clone, Copy, Debug, PartialEq, Eq)]
+#[derive(Clone, Copy, PartialEq, Eq)]
 pub enum Sample {
     /// In hundredths of a kelvin.
     Temperature(u64),

@@ -1,8 +1,11 @@
 //! The formats, read and written.
 use crate::beacon::{Told, read_beacon, write_beacon};
 use crate::lamp::{Colour, State, read_lamp, write_lamp};
+use crate::lite::{Datagram, read_lite, write_lite};
 use crate::message::{Said, Sample, read_message, write_message};
-use narc_format::{Fault, Front};
+use crate::readings::{Readings, read_log, write_log};
+use crate::vxlan::{FLAG, Header, IDENTIFIER, field_name, read_vxlan, write_vxlan};
+use narc_rules::{Fault, Field, Front, Gather};
 
 /// A lit lamp in green, at 50.
 fn lit() -> State {
@@ -61,7 +64,7 @@ fn a_message_is_refused_at_its_first_part_that_has_no_reading(rt: HostRuntime) {
 }
 
 #[test]
-#[tactic(auto, unfolding(narc_bits::specs::Bits::bits, narc_bits::specs::Bits::bits_of_number, narc_compose::specs::Seq::seq, narc_compose::specs::Seq::seq_tail, narc_compose::specs::Strip::stripped, narc_compose::specs::Union::united, narc_list::specs::Bytes::all_octets, narc_scalar::specs::Constant::constant, narc_scalar::specs::Names::enumerated, narc_scalar::specs::Octets::fixed_octets, narc_scalar::specs::Tested::tested, narc_scalar::specs::Word::word))]
+#[tactic(auto, unfolding(narc_rules::specs::Meanings::bits, narc_rules::specs::Meanings::bits_of_number, narc_rules::specs::Meanings::seq, narc_rules::specs::Meanings::seq_tail, narc_rules::specs::Meanings::stripped, narc_rules::specs::Meanings::united, narc_rules::specs::Meanings::all_octets, narc_rules::specs::Meanings::constant, narc_rules::specs::Meanings::enumerated, narc_rules::specs::Meanings::fixed_octets, narc_rules::specs::Meanings::tested, narc_rules::specs::Meanings::word))]
 fn a_message_is_written(rt: HostRuntime) {
     let said: Said = (((), (7, Sample::Temperature(27315))), b"ok");
     let mut room = [0xff; 8];
@@ -94,11 +97,95 @@ fn a_beacon_is_refused_at_its_checksum_and_its_name(rt: HostRuntime) {
 }
 
 #[test]
-#[tactic(auto, unfolding(narc_bits::specs::Bits::bits, narc_bits::specs::Bits::bits_of_number, narc_bits::specs::Bits::overlay, narc_compose::specs::Gap::gapped, narc_compose::specs::Measured::measured, narc_compose::specs::Seq::seq, narc_list::specs::Bytes::all_octets, narc_list::specs::Region::region, narc_scalar::specs::Constant::constant, narc_scalar::specs::Flag::flag, narc_scalar::specs::Names::enumerated, narc_scalar::specs::Tested::tested, narc_scalar::specs::Word::word, narc_sum::specs::Checked::checked))]
+#[tactic(auto, unfolding(narc_rules::specs::Meanings::bits, narc_rules::specs::Meanings::bits_of_number, narc_rules::specs::Meanings::overlay, narc_rules::specs::Meanings::gapped, narc_rules::specs::Meanings::measured, narc_rules::specs::Meanings::seq, narc_rules::specs::Meanings::all_octets, narc_rules::specs::Meanings::region, narc_rules::specs::Meanings::constant, narc_rules::specs::Meanings::flag, narc_rules::specs::Meanings::enumerated, narc_rules::specs::Meanings::tested, narc_rules::specs::Meanings::word, narc_rules::specs::Meanings::checked))]
 fn a_beacon_is_written_with_its_checksum(rt: HostRuntime) {
     let told: Told = (((), (true, (Colour::Green, 50))), (2, b"ok"));
     let mut room = [0xff; 8];
     assert!(rt; write_beacon(&told, &mut room) == 56);
     assert!(rt; &room[..7] == &CALLED_OK[..]);
     assert!(rt; room[7] == 0xff);
+}
+
+#[test]
+fn a_header_is_read_whatever_its_reserved_bits(rt: HostRuntime) {
+    let read = Ok(Front {
+        value: Header { vni: 0x123456 },
+        bits: 64,
+    });
+    assert!(rt; read_vxlan(&[0x08, 0, 0, 0, 0x12, 0x34, 0x56, 0]) == read);
+    assert!(rt; read_vxlan(&[0xff, 1, 2, 3, 0x12, 0x34, 0x56, 9, 9]) == read);
+}
+
+#[test]
+fn a_header_is_refused_at_the_field_that_is_wrong(rt: HostRuntime) {
+    let flag = Fault {
+        field: Field::of(FLAG),
+        at: 4,
+    };
+    assert!(rt; read_vxlan(&[0xf7, 0, 0, 0, 0x12, 0x34, 0x56, 0]) == Err(flag));
+    assert!(rt; field_name(flag.field) == "vxlan.flag");
+    let identifier = Fault {
+        field: Field::of(IDENTIFIER),
+        at: 32,
+    };
+    assert!(rt; read_vxlan(&[0x08, 0, 0, 0, 0x12, 0x34]) == Err(identifier));
+    assert!(rt; field_name(identifier.field) == "vxlan.identifier");
+}
+
+#[test]
+fn a_header_is_written_with_zeros(rt: HostRuntime) {
+    let mut room = [0xff; 9];
+    write_vxlan(&Header { vni: 0x123456 }, &mut room);
+    assert!(rt; room == [0x08, 0, 0, 0, 0x12, 0x34, 0x56, 0, 0xff]);
+}
+
+/// Ports 1 and 2, 10 octets covered: 1 + 2 + 10 + 0x6f6b is 0x6f78, whose complement is 0x9087.
+const COVERED: [u8; 11] = [0, 1, 0, 2, 0, 10, 0x90, 0x87, b'o', b'k', 9];
+
+#[test]
+fn a_datagram_is_read_whatever_is_not_covered(rt: HostRuntime) {
+    assert!(rt; read_lite(&COVERED) == Ok((((1, (2, 10)), &b"ok"[..]), &[9][..])));
+    assert!(rt; read_lite(&COVERED[..10]) == Ok((((1, (2, 10)), &b"ok"[..]), &[][..])));
+}
+
+#[test]
+fn a_datagram_is_refused_at_its_coverage_and_its_checksum(rt: HostRuntime) {
+    let mut wrong = COVERED;
+    wrong[9] = b'l';
+    assert!(rt; read_lite(&wrong) == Err(Fault::unnamed().later_by(48)));
+    assert!(rt; read_lite(&[0, 1, 0, 2, 0, 7, 0, 0]) == Err(Fault::unnamed().later_by(32)));
+    assert!(rt; read_lite(&COVERED[..9]) == Err(Fault::unnamed().later_by(64)));
+}
+
+#[test]
+#[tactic(auto, unfolding(narc_rules::specs::Meanings::bits, narc_rules::specs::Meanings::bits_of_number, narc_rules::specs::Meanings::overlay, narc_rules::specs::Meanings::all_octets, narc_rules::specs::Meanings::checked, narc_rules::specs::Meanings::gapped, narc_rules::specs::Meanings::measured, narc_rules::specs::Meanings::region, narc_rules::specs::Meanings::seq, narc_rules::specs::Meanings::seq_tail, narc_rules::specs::Meanings::tested, narc_rules::specs::Meanings::word))]
+fn a_datagram_is_written_with_its_checksum(rt: HostRuntime) {
+    let datagram: Datagram = (((1, (2, 10)), b"ok"), &[9]);
+    let mut room = [0xff; 12];
+    assert!(rt; write_lite(&datagram, &mut room) == 88);
+    assert!(rt; &room[..11] == &COVERED[..]);
+    assert!(rt; room[11] == 0xff);
+}
+
+#[test]
+fn so_many_readings_are_read_and_no_more(rt: HostRuntime) {
+    let read = read_log(&[2, 0x6a, 0xb3, 0, 7, 9]);
+    assert!(rt; matches!(&read, Ok(front) if front.bits == 40 && front.value.0 == 2));
+    if let Ok(front) = read {
+        assert!(rt; front.value.1.len() == 2);
+        assert!(rt; *front.value.1.get(0) == 27315);
+    }
+    assert!(rt; matches!(read_log(&[2, 0x6a, 0xb3, 0]), Err(fault) if fault.at == 24));
+    assert!(rt; matches!(read_log(&[5, 0, 0]), Err(fault) if fault.at == 0));
+}
+
+#[test]
+#[tactic(auto, unfolding(narc_rules::specs::Meanings::bits_of_number, narc_rules::specs::Meanings::counted, narc_rules::specs::Meanings::seq, narc_rules::specs::Meanings::spellings, narc_rules::specs::Meanings::tested, narc_rules::specs::Meanings::word))]
+fn readings_are_written_behind_their_number(rt: HostRuntime) {
+    let mut readings = Readings::empty();
+    readings.push(27315);
+    readings.push(7);
+    let mut room = [0xff; 6];
+    assert!(rt; write_log(&(2, readings), &mut room) == 40);
+    assert!(rt; room == [2, 0x6a, 0xb3, 0, 7, 0xff]);
 }

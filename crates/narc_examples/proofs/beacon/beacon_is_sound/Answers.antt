@@ -1,62 +1,25 @@
-use Rattle.std.proofs.Common.{◌≡◌, ◌/◌, ◌++◌, length, lit≤, refl, sym, ap, ◌∙◌, arith, length-append}
-use Rattle.narc_bits.specs.Bits.{bits_of_number}
-use Rattle.narc_bits.proofs.Numbers.{length-bits_of_number}
-use Rattle.narc_compose.specs.Gap.{gapped}
-use Rattle.narc_compose.specs.Measured.{measured}
-use Rattle.narc_compose.specs.Seq.{seq}
-use Rattle.narc_list.specs.Bytes.{all_octets}
-use Rattle.narc_list.specs.Region.{region}
-use Rattle.narc_scalar.specs.Constant.{constant}
-use Rattle.narc_scalar.specs.Word.{word}
-use Rattle.narc_sum.specs.Checked.{checked}
-use Rattle.narc_examples.proofs.Versions.{version_some, regroup}
+use Rattle.std.proofs.Common.{◌≡◌, ◌+◌, ◌*◌, length, refl, ap, ◌∙◌, arith, lit<}
+use Rattle.narc_rules.specs.Checked.{checked}
+use Rattle.narc_rules.specs.Gap.{gapped}
+use Rattle.narc_rules.specs.Region.{region}
+use Rattle.narc_rules.specs.Seq.{seq}
+use Rattle.narc_rules.specs.Word.{word}
+use Rattle.narc_rules.proofs.Sizes.{joined_size, gapped_size}
+use Rattle.narc_rules.proofs.SomeSums.{some-front, some_number, checked_is_sound}
+use Rattle.narc_rules.proofs.Numbers.{length-bits_of_number}
 use Rattle.narc_examples.proofs.beacon.beacon_is_sound.Goals as goal
 
 pub returns : goal.returns
-unfolding checked seq gapped measured region all_octets constant word
-returns c = record {
-  part_sound = record {
-    first_sound = record { part_sound = c.lamp_is_sound.ensures; wide = c.format_is_wide.ensures; words = refl };
-    second_sound = record {
-      first_sound = (lit≤ tt, lit≤ tt);
-      second_sound = record {
-        part_sound = record { part_sound = tt; measured_valid = λ d ok n h. tt; written_valid = λ d ok. tt; same = λ d ok v b. (λ p. p, λ p. p) };
-        fills = λ d ok v b size p. ap length (sym p.1) ∙ size;
-      };
-      carries = record { first_valid = λ d ok. tt; second_valid = λ d v ok a. omega (arith, a); same = λ d v w a. a };
-      meets = λ h. refl;
-    };
-    carries = record { first_valid = λ d ok. tt; second_valid = λ d v ok a. tt; same = λ d v w a. refl };
-    meets = λ h. refl;
-  };
-  holed = c.format_is_holed.ensures;
-  whole = refl;
-  aligned = refl;
-  even = refl;
-  some = λ d ok v b p.
-      let g = p.first in
-      let size = c.format_is_wide.ensures.sized c.lamp_is_sound.ensures tt v.0 g.front g.stood in
-      let later = g.stood.back ++ (g.word ++ p.back) in
-      let start : b ≡ bits_of_number 4 2 ++ later =
-      p.joined ∙ ap (λ l. l ++ p.back) (g.joined ∙ ap (λ l. l ++ g.word) (g.stood.joined ∙ ap (λ l. l ++ g.stood.back) g.stood.first))
-      ∙ regroup (bits_of_number 4 2) g.stood.back g.word p.back in
-      let sum = version_some (length b / 8) b later (omega (arith, size, ap length p.joined, length-append p.front p.back, ap length g.joined, length-append g.front g.word)) start in
-      omega (arith, sum);
-  short = λ d ok v b p.
-      let g = p.first in
-      omega (
-        arith,
-        c.format_is_wide.ensures.sized c.lamp_is_sound.ensures tt v.0 g.front g.stood,
-        g.size,
-        p.second.first.0,
-        ap length p.second.first.1,
-        length-bits_of_number 8 v.1.0,
-        p.second.second.size,
-        ap length p.joined,
-        length-append p.front p.back,
-        ap length g.joined,
-        length-append g.front g.word,
-        ap length p.second.joined,
-        length-append p.second.front p.second.back,
-      );
-}
+unfolding checked seq gapped region word
+returns c =
+    checked_is_sound _ _ _ c.fields_are_sound.ensures c.format_is_holed.ensures refl refl refl
+    (λ d ok v b p.
+    let wide = c.format_is_wide.ensures.sized c.lamp_is_sound.ensures tt v.0 in
+    let size : length b ≡ (16 + 16) + (8 + 8 * v.1.0) =
+    joined_size p (λ x g. gapped_size g wide) (λ x n. joined_size n (λ y h. ap length h.1 ∙ length-bits_of_number 8 v.1.0) (λ y r. r.size)) in (
+      omega (arith, size),
+      omega (arith, size, p.second.first.0),
+    ))
+    (λ d ok v b p.
+    let lamp = (c.lamp_is_its_bits.ensures v.0.1.0 v.0.1.1.0 v.0.1.1.1 p.first.front).0 p.first.stood in
+    some-front _ _ p.joined (some-front _ _ p.first.joined (some-front _ _ lamp.spelled (some_number 4 2 (lit< tt) (lit< tt)))))

@@ -1,27 +1,27 @@
 //! A datagram whose checksum covers a part of it, after UDP-Lite (RFC 3828, section 3.1).
-#![tactic(auto, unfolding(narc_compose::specs::Gap::gapped, narc_compose::specs::Measured::measured, narc_compose::specs::Seq::seq, narc_compose::specs::Seq::seq_tail, narc_compose::specs::Strip::stripped, narc_list::specs::Bytes::all_octets, narc_list::specs::Region::region, narc_scalar::specs::Tested::tested, narc_scalar::specs::Word::word, narc_sum::specs::Checked::checked))]
+#![tactic(auto, using(narc_rules::proofs::SizedBytes::sized_bytes_sound), unfolding(narc_rules::specs::Meanings::all_octets, narc_rules::specs::Meanings::checked, narc_rules::specs::Meanings::gapped, narc_rules::specs::Meanings::measured, narc_rules::specs::Meanings::region, narc_rules::specs::Meanings::seq, narc_rules::specs::Meanings::seq_tail, narc_rules::specs::Meanings::tested, narc_rules::specs::Meanings::word))]
 
-ghost use Rattle.std.specs.Prelude.{◌≡◌, ◌*◌, ◌-◌, ◌<◌, ◌≤◌, ◌^◌, length, nat_le};
-ghost use Rattle.narc_bits.specs.Bits.{bits, overlay};
-ghost use Rattle.narc_format.specs.Answer.{IsAllAnswer};
+ghost use Rattle.std.specs.Prelude.{◌≡◌, ◌*◌, ◌-◌, ◌≤◌, length, nat_le};
+ghost use Rattle.narc_rules.specs.Bits.{bits, overlay};
+ghost use Rattle.narc_rules.specs.Answer.{IsAllAnswer};
 
-use narc_bits::{Cursor, MAX_FRAME, Writer};
-use narc_compose::{Carry, Gap, Measure, Measured, NoContext, Seq, SeqTail, Then};
-use narc_format::{Fault, Format, Tail, read_all};
-use narc_layout::laws::{format_is_holed, format_is_wide};
-use narc_list::{Bytes, Count, Region};
-use narc_scalar::{Test, Where, Word};
-use narc_sum::{Checked, NoPseudo};
+use narc_rules::{
+    Bytes, Carry, Checked, Cursor, Fault, Format, Gap, MAX_FRAME, NoContext, NoPseudo, Seq,
+    SeqTail, SizedBytes, Tail, Test, Then, Where, Word, Writer, format_is_holed, format_is_wide,
+    read_all,
+};
 
 //  |          source port          |       destination port        |
 //  |       checksum coverage       |           checksum            |
 //  | covered data, then data that is not covered                   |
-pub type Lite = SeqTail<Checked<Covered, NoPseudo>, Bytes, NoContext>;
+pub type Lite = SeqTail<Summed, Bytes, NoContext>;
+
+type Summed = Checked<Covered, NoPseudo>;
+
+type Covered = Seq<Gap<Head>, SizedBytes, CoverageFirst>;
 
 /// Two ports, and how many octets the checksum covers: this header, and the data that is covered.
 type Head = Then<Word<16>, Then<Word<16>, Where<Word<16>, IsCoverage>>>;
-
-type Covered = Seq<Gap<Head>, Region<Measured<Bytes, AnyNumber>, CoveredOctets>, CoverageFirst>;
 
 /// Ports and coverage, the data that is covered, and the rest.
 pub type Datagram<'a> = (((u64, (u64, u64)), &'a [u8]), &'a [u8]);
@@ -41,61 +41,23 @@ impl Test for IsCoverage {
     }
 }
 
-/// The coverage is the context of what is behind it.
+/// The data has the octets of the coverage but for those of the header.
 pub struct CoverageFirst;
 
-impl Carry<(u64, (u64, u64)), (), u64> for CoverageFirst {
+impl Carry<(u64, (u64, u64)), (), usize> for CoverageFirst {
     type Ctx = ();
 
     ghost first_of = { λ c. c };
 
-    ghost second_of = { λ c head. head.1.1 };
+    ghost second_of = { λ c head. head.1.1 - 8 };
 
     ghost valid = { λ c. Unit {0} };
 
     fn first(_ctx: ()) {}
 
-    fn second(_ctx: (), head: &(u64, (u64, u64))) -> u64 {
-        head.1.1
+    fn second(_ctx: (), head: &(u64, (u64, u64))) -> usize {
+        head.1.1.saturating_sub(8) as usize
     }
-}
-
-/// As many octets as are covered behind the header.
-pub struct CoveredOctets;
-
-impl Count for CoveredOctets {
-    type Ctx = u64;
-
-    ghost octets_of = { λ c. c - 8 };
-
-    ghost count_of = { λ c. c - 8 };
-
-    ghost valid = { λ c. c < 2 ^ 16 };
-
-    fn octets(ctx: u64) -> usize {
-        ctx.saturating_sub(8) as usize
-    }
-
-    fn count(ctx: u64) -> usize {
-        ctx.saturating_sub(8) as usize
-    }
-}
-
-/// The data needs no context.
-pub struct AnyNumber;
-
-impl Measure<()> for AnyNumber {
-    type Ctx = u64;
-
-    ghost measured_of = { λ c octets. tt };
-
-    ghost written_of = { λ c. tt };
-
-    ghost valid = { λ c. c < 2 ^ 16 };
-
-    fn measured(_ctx: u64, _octets: usize) {}
-
-    fn written(_ctx: u64) {}
 }
 
 /// The datagram that the octets are, or why they are none: the one answer.
@@ -126,9 +88,23 @@ pub fn write_lite<'a>(datagram: &Datagram<'a>, room: &mut [u8]) -> usize
 pub fn lite_is_sound()
     ensures { ⟦<Lite as Tail<Cursor<'static>>>⟧.meaning.sound }
 {
+    summed_is_sound();
+}
+
+fn summed_is_sound()
+    ensures { ⟦<Summed as Format<Cursor<'static>>>⟧.meaning.sound }
+{
     head_is_sound();
+    covered_is_sound();
     format_is_wide::<Cursor<'static>, Head>();
     format_is_holed::<Cursor<'static>, Covered>();
+}
+
+fn covered_is_sound()
+    ensures { ⟦<Covered as Format<Cursor<'static>>>⟧.meaning.sound }
+{
+    head_is_sound();
+    format_is_wide::<Cursor<'static>, Head>();
 }
 
 fn head_is_sound()

@@ -1,22 +1,43 @@
-//! The header of VXLAN (RFC 7348, section 5).
-#![tactic(auto, unfolding(narc_compose::specs::Seq::seq, narc_compose::specs::Strip::stripped, narc_scalar::specs::Constant::constant, narc_scalar::specs::Word::word))]
+//! The header of VXLAN (RFC 7348, section 5): bits that are free when read, fields with names, and a struct as value.
+#![tactic(auto, unfolding(narc_rules::specs::Meanings::constant, narc_rules::specs::Meanings::named, narc_rules::specs::Meanings::seq, narc_rules::specs::Meanings::stripped, narc_rules::specs::Meanings::word))]
 
 ghost use Rattle.std.specs.Prelude.{◌≡◌, ◌↔◌, ℕ, ◌%◌, ◌<◌, ◌≤◌, ◌^◌, List, Bool, length};
-ghost use Rattle.narc_bits.specs.Bits.{bits, overlay};
-ghost use Rattle.narc_format.specs.Answer.{IsFrontAnswer};
-ghost use Rattle.my_formats.specs.Vxlan.{IsVxlan};
-ghost use Rattle.my_formats.specs.declared.vxlan.Header.{Header};
+ghost use Rattle.narc_rules.specs.Bits.{bits, overlay};
+ghost use Rattle.narc_rules.specs.Answer.{IsFrontAnswer};
+ghost use Rattle.narc_examples.specs.Vxlan.{IsVxlan, name_of_field};
+ghost use Rattle.narc_examples.specs.declared.vxlan.Header.{Header};
 
-use narc_bits::{Cursor, MAX_FRAME, Writer};
-use narc_compose::{Choose, Strip, Then};
-use narc_format::{Fault, Format, Front, read_front};
-use narc_scalar::{Const, Word};
+use narc_rules::{
+    Choose, Const, Cursor, Fault, Field, Format, Front, MAX_FRAME, Named, Strip, Then, Word,
+    Writer, read_front,
+};
+
+/// The fields that a refusal names.
+pub const FLAG: u8 = 1;
+
+pub const IDENTIFIER: u8 = 2;
+
+/// What a field is called.
+pub fn field_name(field: Field) -> &'static str
+    ensures { result.now ≡ name_of_field field }
+{
+    if field.number() == FLAG {
+        "vxlan.flag"
+    } else if field.number() == IDENTIFIER {
+        "vxlan.identifier"
+    } else {
+        "unnamed"
+    }
+}
 
 //  |R|R|R|R|I|R|R|R|            reserved                           |
 //  |                VXLAN network identifier       |   reserved    |
 type RawVxlan = Then<
     Word<4>,
-    Then<Const<1, 1>, Then<Word<3>, Then<Word<24>, Then<Word<24>, Word<8>>>>>,
+    Then<
+        Named<Const<1, 1>, FLAG>,
+        Then<Word<3>, Then<Word<24>, Then<Named<Word<24>, IDENTIFIER>, Word<8>>>>,
+    >,
 >;
 
 /// The flag I is 1. The reserved bits are any when read, and 0 when written.
@@ -54,7 +75,7 @@ impl Choose<(), Raw> for AsHeader {
     }
 }
 
-/// The header at the front of the octets, and its 64 bits, or why there is none.
+/// The header at the front of the octets, and its 64 bits, or why there is none: the one answer.
 pub fn read_vxlan(octets: &[u8]) -> Result<Front<Header>, Fault>
     requires { length octets.now ≤ MAX_FRAME }
     ensures { IsFrontAnswer ⟦<Vxlan as Format<Cursor<'static>>>⟧.meaning tt (bits octets.now) result }
@@ -63,7 +84,7 @@ pub fn read_vxlan(octets: &[u8]) -> Result<Front<Header>, Fault>
 }
 
 /// Writes the header into the first 8 octets of the room.
-#[tactic(auto, unfolding(narc_bits::specs::Bits::bits_of_number, narc_compose::specs::Seq::seq, narc_compose::specs::Strip::stripped, narc_scalar::specs::Constant::constant, narc_scalar::specs::Word::word))]
+#[tactic(auto, unfolding(narc_rules::specs::Meanings::bits_of_number, narc_rules::specs::Meanings::constant, narc_rules::specs::Meanings::named, narc_rules::specs::Meanings::seq, narc_rules::specs::Meanings::stripped, narc_rules::specs::Meanings::word))]
 pub fn write_vxlan(header: &Header, room: &mut [u8])
     requires identifier { header.now.vni < 2 ^ 24 }
     requires small { length room.old ≤ MAX_FRAME }
@@ -78,9 +99,4 @@ pub fn write_vxlan(header: &Header, room: &mut [u8])
 /// Bits stand for a header exactly where they have its identifier, and the flag is 1.
 pub fn vxlan_is_its_bits()
     ensures { (header : Header) (b : List Bool) → ⟦<Vxlan as Format<Cursor<'static>>>⟧.meaning.stands tt header b ↔ IsVxlan header.vni b }
-{}
-
-/// The conditions of the rules hold.
-pub fn vxlan_is_sound()
-    ensures { ⟦<Vxlan as Format<Cursor<'static>>>⟧.meaning.sound }
 {}
