@@ -142,13 +142,13 @@ fn a_header_is_these_fields_in_order(_rt: HostRuntime) {
 #[test]
 fn a_header_is_read_and_written(rt: HostRuntime) {
     match read_head(115, &HEADER) {
-        Ok(header) => {
-            assert!(rt; (header.length, header.tos, header.total) == (20, 0, 115));
-            assert!(rt; (header.id, header.offset) == (0, 0));
-            assert!(rt; (header.df, header.mf) == (true, false));
-            assert!(rt; (header.ttl, header.protocol) == (64, 17));
-            assert!(rt; (header.src, header.dst) == ([192, 168, 0, 1], [192, 168, 0, 199]));
-            assert!(rt; header.options.spelled.is_empty());
+        Ok(read) => {
+            assert!(rt; (read.length, read.tos, read.total) == (20, 0, 115));
+            assert!(rt; (read.id, read.offset) == (0, 0));
+            assert!(rt; (read.df, read.mf) == (true, false));
+            assert!(rt; (read.ttl, read.protocol) == (64, 17));
+            assert!(rt; (read.src, read.dst) == ([192, 168, 0, 1], [192, 168, 0, 199]));
+            assert!(rt; read.options.spelled.is_empty());
         }
         Err(_) => panic!(rt; "refused"),
     }

@@ -11,7 +11,9 @@ use narc_compose::Parted;
 use narc_format::{Fault, Field, Tail, read_all};
 use narc_packet::Udp;
 use narc_sum::MAX_CHECKED;
-use narc_transport::{Ends, TcpPart, TcpWithOffset, UdpPart};
+use narc_transport::{
+    Ends, TcpPart, TcpWithOffset, UdpPart, tcp_format_is_sound, udp_format_is_sound,
+};
 
 /// The addresses of each test.
 const ENDS: Ends = Ends {
@@ -44,6 +46,7 @@ fn write<I: Input, F: Tail<I, Ctx = (Ends, usize)>>(value: &F::Value, room: &mut
 fn read_datagram(octets: &[u8]) -> Result<Udp<'_>, Fault>
     requires { length octets.now ≤ MAX_CHECKED }
 {
+    udp_format_is_sound();
     read_all::<Parted<UdpPart>>((ENDS, octets.len()), octets)
 }
 
@@ -59,6 +62,7 @@ fn write_datagram(udp: &Udp<'_>, room: &mut [u8])
 fn read_segment(octets: &[u8]) -> Result<TcpWithOffset<'_>, Fault>
     requires { length octets.now ≤ MAX_CHECKED }
 {
+    tcp_format_is_sound();
     read_all::<Parted<TcpPart>>((ENDS, octets.len()), octets)
 }
 

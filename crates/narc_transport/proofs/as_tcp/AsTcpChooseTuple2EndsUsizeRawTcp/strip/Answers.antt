@@ -1,0 +1,5 @@
+use Rattle.std.proofs.Common.{refl}
+use Rattle.narc_transport.proofs.as_tcp.AsTcpChooseTuple2EndsUsizeRawTcp.strip.Goals as goal
+
+pub returns : goal.returns
+returns c = refl
