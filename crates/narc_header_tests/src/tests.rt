@@ -3,6 +3,8 @@ ghost use Rattle.std.specs.Prelude.{◌*◌, ◌≤◌, length};
 
 mod eth;
 mod ipv4;
+mod options;
+mod packets;
 mod transport;
 
 use narc_bits::{Input, MAX_FRAME, Writer};

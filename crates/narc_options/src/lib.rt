@@ -5,8 +5,6 @@ mod area;
 mod laws;
 mod option;
 mod part;
-#[cfg(test)]
-mod tests;
 
 pub use area::{OptionArea, OptionRegion};
 pub use laws::{

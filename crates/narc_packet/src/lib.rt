@@ -20,6 +20,3 @@ pub use option_type::TcpOptionType;
 pub use options::{IpOption, IpOptionIter, IpOptions, TcpOption, TcpOptionIter, TcpOptions};
 pub use packet::{Arp, EthBody, IpBody, Ipv4, Packet, Tcp, Udp};
 pub use well_formed::is_well_formed;
-
-#[cfg(test)]
-mod tests;

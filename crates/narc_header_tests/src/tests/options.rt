@@ -1,66 +1,31 @@
 //! Options and their areas, written out, read, refused and written.
-ghost use Rattle.std.specs.Prelude.{◌≡◌, ◌*◌, ◌≤◌, length};
+ghost use Rattle.std.specs.Prelude.{◌≤◌, length};
 
-use crate::{
+use super::write;
+use narc_bits::{Cursor, MAX_FRAME};
+use narc_compose::{Either, Measured, Parted, Seq, Union};
+use narc_format::{Fault, read_front};
+use narc_list::{Bytes, Pad, Region, Until};
+use narc_options::{
     AnyOctets, ByKind, ContextOctets, DataOf, IsKind, IsOptionLength, KindOf, OptionArea,
     OptionAreaPart, OptionFields, OptionRegion, RawOption,
 };
-use narc_bits::{Cursor, Input, MAX_FRAME, Steps, Writer};
-use narc_compose::{Either, Measured, Parted, Seq, Union};
-use narc_format::{Fault, Format};
-use narc_list::{Bytes, Pad, Region, Until};
 use narc_samples::are_one;
 use narc_scalar::{Where, Word};
-use std::marker::{Brand, PhantomData};
-use std::sync::ledger::{Blank, Ledger};
-
-fn read_counted<I: Input, F: Format<I>, L: Ledger>(
-    ctx: F::Ctx,
-    input: &mut I,
-    blank: Blank,
-) -> Result<F::Value, Fault>
-    requires sound { F.meaning.sound }
-    requires start { (I.scan input.old).place ≡ 0 }
-    requires name { blank.name ≡ L.name }
-    requires parts { blank.parts ≡ L.parts }
-    requires one { blank.parts ≡ 1 }
-{
-    let mut steps: Steps<L> = Steps::new(blank);
-    F::read(ctx, input, &mut steps)
-}
-
-/// What F reads at the beginning of the input.
-fn read<I: Input, F: Format<I>>(ctx: F::Ctx, input: &mut I) -> Result<F::Value, Fault>
-    requires sound { F.meaning.sound }
-    requires start { (I.scan input.old).place ≡ 0 }
-{
-    read_counted::<I, F, Brand>(ctx, input, Blank::new(1))
-}
-
-/// Writes a value by F into the room: how many bits.
-fn write<I: Input, F: Format<I>>(ctx: F::Ctx, value: &F::Value, room: &mut [u8]) -> usize
-    requires sound { F.meaning.sound }
-    requires admitted { F.meaning.admits ctx value.now }
-    requires small { length room.old ≤ MAX_FRAME }
-    requires enough { length (F.meaning.spelling ctx value.now) ≤ 8 * length room.old }
-{
-    let mut writer = Writer::new();
-    F::write(ctx, value, room, &mut writer);
-    writer.place()
-}
+use std::marker::PhantomData;
 
 /// The option that the octets begin with.
 fn read_option<'a>(octets: &'a [u8]) -> Result<RawOption<'a>, Fault>
     requires { length octets.now ≤ MAX_FRAME }
 {
-    read::<Cursor<'a>, OptionFields>((), &mut Cursor::new(octets))
+    Ok(read_front::<OptionFields>((), octets)?.value)
 }
 
 /// The options in an area of so many octets.
 fn read_area<'a>(count: usize, octets: &'a [u8]) -> Result<&'a [u8], Fault>
     requires { length octets.now ≤ MAX_FRAME }
 {
-    read::<Cursor<'a>, OptionRegion>(count, &mut Cursor::new(octets))
+    Ok(read_front::<OptionRegion>(count, octets)?.value)
 }
 
 /// The place of the unnamed fault that the octets are refused with as an area.

@@ -1,10 +1,9 @@
 //! Options one by one, and packets at the edge of what has a frame.
-use super::{
+use narc_format::Field;
+use narc_packet::{
     EthBody, IpBody, IpOption, IpOptionList, IpOptions, Ipv4, OptionError, Packet, SackBlock,
     SackBlockList, TcpOption, TcpOptionList, TcpOptions, field, is_well_formed,
 };
-use narc_format::Field;
-use std::test::Fail;
 
 fn ipv4(mf: bool, body: IpBody<'_>) -> Packet<'_> {
     Packet {
@@ -45,7 +44,7 @@ fn options_of_tcp_are_listed_in_order(rt: HostRuntime) {
         spelled: &[2, 4, 5, 180, 2, 3, 9, 0, 1],
     }
     .iter();
-    assert!(rt; options.next() == Some(TcpOption::Mss(1460)));
+    assert!(rt; matches!(options.next(), Some(TcpOption::Mss(1460))));
     let Some(TcpOption::Other { kind, data }) = options.next() else {
         panic!(rt; "one octet of data is no size");
     };
@@ -61,13 +60,12 @@ fn options_of_tcp_have_values_of_their_own(rt: HostRuntime) {
         ],
     }
     .iter();
-    assert!(rt; options.next() == Some(TcpOption::Scale(7)));
-    assert!(rt; options.next() == Some(TcpOption::SackOk));
-    let times = TcpOption::Times {
-        value: 1,
-        echo: 256,
+    assert!(rt; matches!(options.next(), Some(TcpOption::Scale(7))));
+    assert!(rt; matches!(options.next(), Some(TcpOption::SackOk)));
+    let Some(TcpOption::Times { value, echo }) = options.next() else {
+        panic!(rt; "eight octets are two clocks");
     };
-    assert!(rt; options.next() == Some(times));
+    assert!(rt; value == 1 && echo == 256);
     let Some(TcpOption::Other { kind, data }) = options.next() else {
         panic!(rt; "one octet of data is no block");
     };
