@@ -1,7 +1,7 @@
 use Rattle.narc_packet.specs.PacketView.{view}
 use Rattle.narc_text.specs.PacketText.{text}
 use Rattle.narc_text.proofs.Printings.{IsPushed-flushed, IsPushed-stopped}
-use Rattle.narc_text.proofs.packet.tell_packet.Goals as goal
+use Rattle.narc_text.proofs.packet.put_packet.Goals as goal
 
 pub returns-in_err-print_packet-clause-pushed : goal.returns-in_err-print_packet-clause-pushed
 returns-in_err-print_packet-clause-pushed g c =
