@@ -1,6 +1,6 @@
 -- The jobs that read a capture keep what is promised of runs.
-use Rattle.std.proofs.Common.{◌≡◌, ℕ, ◌+◌, ◌-◌, ◌<◌, ◌≤◌, ◌⊎◌, inl, inr, Bool, true, false, List, [], ◌∷◌, ◌++◌, length, take, Option, Some, None, Result, refl, sym, ap, ◌∙◌, subst, arith, append_assoc, append-nil, length-append}
-use Rattle.std.specs.Prelude.{IsSome, IfSome, IfNone, IsTrue, IsFalse, sum_by, count_by, nat_eq, if◌then◌else◌}
+use Rattle.std.proofs.Common.{◌≡◌, ◌≢◌, ℕ, ◌+◌, ◌-◌, ◌<◌, ◌≤◌, ◌⊎◌, inl, inr, Bool, true, false, List, [], ◌∷◌, ◌++◌, length, take, Option, Some, None, Result, refl, sym, ap, ◌∙◌, subst, arith, append_assoc, append-nil, length-append}
+use Rattle.std.specs.Prelude.{IsTrue, IsFalse, sum_by, count_by, nat_eq, if◌then◌else◌}
 use Rattle.std.proofs.lemmas.List.{take_at, take_all}
 use Rattle.narc_bits.proofs.Lists.{take-append-add}
 use Rattle.narc_world.specs.declared.error.Failed.{Failed}
@@ -15,9 +15,10 @@ use Rattle.narc_run.specs.Job.{Job, CaptureJob, Capture, Show, Check, job}
 use Rattle.narc_run.specs.Findings.{Findings, Found, FoundSoFar, Told, AreTold, frames, frame_cost}
 use Rattle.narc_run.specs.Output.{body, output, is_refused}
 use Rattle.narc_run.specs.Verdict.{Verdict, verdict, verdict_of, end_verdict, records_status, is_decided}
-use Rattle.narc_run.specs.Run.{Run, WhereTold, IsRightRun, IsRightWriting, WroteFront}
+use Rattle.narc_run.specs.Run.{Run, WhereTold, IsRightRun, IsRightWriting, OnUnread, AreCounted, input_limit, WroteFront}
 use Rattle.narc_run.specs.CaptureRun.{Judges, Breaks, Overruns, Stops, StopsLast, StopsBehind, CaptureRun, Judged, Broken, Overrun, Stopped, StoppedLast, StoppedBehind, EndsCapture, IsOutcome}
-use Rattle.narc_run.proofs.FrameRuns.{taken_is}
+use Rattle.narc_run.specs.RightJob.{IsRight, IsRightFor}
+use Rattle.narc_run.proofs.Jobs.{for_job, some, where_none, not_none, run_of, taken_is}
 
 -- a bad place decides the capture of all that follows
 decided_more : (s more : List ℕ) → IsTrue (is_bad (capture s).end) → capture (s ++ more) ≡ capture s
@@ -41,33 +42,18 @@ few_statuses Check told = at (nat_eq (count_by is_refused told) 0) where
   at true = omega arith
   at false = omega arith
 
+-- the statuses that a run does not have
+record Statuses (status : ℕ) : Type 0 where
+  two : status ≢ 2
+  four : status ≢ 4
+
+by_status : (n : ℕ) {status : ℕ} → status ≡ n → n ≢ 2 → n ≢ 4 → Statuses status
+by_status n told two four = record { two = λ h. two (sym told ∙ h); four = λ h. four (sym told ∙ h) }
+
 module _ (c : CaptureJob) (words : List (List ℕ)) (is : job words ≡ Some (Capture c)) where
-  for_capture : (P : Job → Type 0) → P (Capture c) → IfSome (job words) P
-  for_capture P p = subst (λ o. IfSome o P) (sym is) p
-
-  some : IsSome (job words)
-  some = subst IsSome (sym is) refl
-
-  where_none : (P : Type 0) → IfNone (job words) P
-  where_none P = subst (λ o. IfNone o P) (sym is) tt
-
   module _ (input rest : List ℕ) (before after : Option (List ℕ)) (source_before source_after sink_before sink_after steps_before steps_after status at : ℕ) where
     abbrev this : Run
-    this = record {
-      words = words;
-      input = input;
-      rest = rest;
-      held_before = before;
-      held_after = after;
-      source_before = source_before;
-      source_after = source_after;
-      sink_before = sink_before;
-      sink_after = sink_after;
-      steps_before = steps_before;
-      steps_after = steps_after;
-      status = status;
-      at = at;
-    }
+    this = run_of words input rest before after source_before source_after sink_before sink_after steps_before steps_after status at
 
     abbrev taken_here : List ℕ
     taken_here = take (length input - length rest) input
@@ -136,8 +122,8 @@ module _ (c : CaptureJob) (words : List (List ℕ)) (is : job words ≡ Some (Ca
         record { found = found.found; are = found.are; holds = (sym found.holds.0, found.holds.1) } in
         record {
           front = front octets took fits;
-          reach = for_capture _ (reach octets took fits);
-          done = λ h. for_capture _ (λ reads. elim j.settled [
+          reach = for_job words (Capture c) is _ (reach octets took fits);
+          done = λ h. for_job words (Capture c) is _ (λ reads. elim j.settled [
             | inl ended ↦ (
               ended,
               omega (arith, fits, ap length e),
@@ -146,8 +132,8 @@ module _ (c : CaptureJob) (words : List (List ℕ)) (is : job words ≡ Some (Ca
             | inr bad ↦ absurd (omega (arith, h, judged, bound.bad bad))
           ]);
           malformed = λ h. (
-            some,
-            for_capture _ (subst (λ (s : List ℕ). Found (Capture c) s (λ found.
+            some words (Capture c) is,
+            for_job words (Capture c) is _ (subst (λ (s : List ℕ). Found (Capture c) s (λ found.
                 (((rest ≡ []) × (length taken_here ≤ CAPTURE_LIMIT) × ((verdict (Capture c) s found).status ≡ 3)) ⊎ IsTrue (is_decided (Capture c) s found))
                 × (at ≡ (verdict (Capture c) s found).at) × Appends (output (Capture c) s found) before after)) (sym es) (record {
                   found = found.found;
@@ -165,8 +151,8 @@ module _ (c : CaptureJob) (words : List (List ℕ)) (is : job words ≡ Some (Ca
           source_fault = λ h. absurd (omega (arith, h, judged, bound.few));
           sink_fault = λ h. absurd (omega (arith, h, judged, bound.few));
           limit = λ h. absurd (omega (arith, h, judged, bound.few));
-          steps = for_capture _ (bounded octets took fits (j.takes).steps);
-          complete = λ s k w. (where_none _, for_capture _ (whole_status octets took fits j.settled found.found found.are judged));
+          steps = for_job words (Capture c) is _ (bounded octets took fits (j.takes).steps);
+          complete = λ s k w. (where_none words (Capture c) is _, for_job words (Capture c) is _ (whole_status octets took fits j.settled found.found found.are judged));
         }
 
     pub right_broken : (status ≡ 5 → Rose source_before source_after) → Breaks c (Some input) (Some rest) before after steps_before steps_after status at → IsRightRun this
@@ -177,19 +163,19 @@ module _ (c : CaptureJob) (words : List (List ℕ)) (is : job words ≡ Some (Ca
         let e = here octets took fits in
         record {
           front = front octets took fits;
-          reach = for_capture _ (reach octets took fits);
+          reach = for_job words (Capture c) is _ (reach octets took fits);
           done = λ h. absurd (omega (arith, f.told));
           malformed = λ h. absurd (omega (arith, f.told));
           source_fault = λ h. (
-            some,
-            for_capture _ (
+            some words (Capture c) is,
+            for_job words (Capture c) is _ (
               f.place ∙ ap length (sym e),
               subst (λ (s : List ℕ). FoundSoFar (Capture c) s (λ found. Appends (body (Capture c) s found) before after)) (sym (counted_here octets took fits)) f.found,
             ),
           );
           sink_fault = λ h. absurd (omega (arith, f.told));
           limit = λ h. absurd (omega (arith, f.told));
-          steps = for_capture _ (bounded octets took fits (f.takes).steps);
+          steps = for_job words (Capture c) is _ (bounded octets took fits (f.takes).steps);
           complete = λ s k w. absurd (s (source f.told));
         }
 
@@ -219,20 +205,20 @@ module _ (c : CaptureJob) (words : List (List ℕ)) (is : job words ≡ Some (Ca
         let size = size_past octets f.octet f.took f.long in
         record {
           front = f.took ∙ ap (λ l. l ++ rest) (sym e);
-          reach = for_capture _ (omega (arith, size));
+          reach = for_job words (Capture c) is _ (omega (arith, size));
           done = λ h. absurd (omega (arith, f.told));
           malformed = λ h. absurd (omega (arith, f.told));
           source_fault = λ h. absurd (omega (arith, f.told));
           sink_fault = λ h. absurd (omega (arith, f.told));
-          limit = λ h. for_capture _ (
+          limit = λ h. for_job words (Capture c) is _ (
             omega (arith, size),
             f.place,
             subst (λ (s : List ℕ). FoundSoFar (Capture c) s (λ found. IsFalse (is_decided (Capture c) s found) × Appends (body (Capture c) s found) before after)) (sym es) f.found,
           );
-          steps = for_capture _ (subst (λ (s : List ℕ). steps_after ≤ steps_before + sum_by frame_cost (frames (Capture c) s)) (sym es) f.steps);
+          steps = for_job words (Capture c) is _ (subst (λ (s : List ℕ). steps_after ≤ steps_before + sum_by frame_cost (frames (Capture c) s)) (sym es) f.steps);
           complete = λ s k w. (
-            where_none _,
-            for_capture _ (
+            where_none words (Capture c) is _,
+            for_job words (Capture c) is _ (
               λ h. absurd (omega (arith, h, long_input octets f.octet f.took f.long)),
               λ h. subst (λ (s : List ℕ). Found (Capture c) s (λ found. (IsTrue (is_decided (Capture c) s found) → status ≡ 3) × (IsFalse (is_decided (Capture c) s found) → status ≡ 7))) (sym ei) (record {
                 found = (f.found).found;
@@ -251,13 +237,13 @@ module _ (c : CaptureJob) (words : List (List ℕ)) (is : job words ≡ Some (Ca
           let fits = (f.takes).fits in
           record {
             front = front octets took fits;
-            reach = for_capture _ (reach octets took fits);
+            reach = for_job words (Capture c) is _ (reach octets took fits);
             done = λ h. absurd (omega (arith, told));
             malformed = λ h. absurd (omega (arith, told));
             source_fault = λ h. absurd (omega (arith, told));
-            sink_fault = λ h. for_capture _ (inl (subst (λ (s : List ℕ). FoundSoFar (Capture c) s (λ found. WroteFront (body (Capture c) s found) before after)) (sym (counted_here octets took fits)) f.found));
+            sink_fault = λ h. for_job words (Capture c) is _ (inl (subst (λ (s : List ℕ). FoundSoFar (Capture c) s (λ found. WroteFront (body (Capture c) s found) before after)) (sym (counted_here octets took fits)) f.found));
             limit = λ h. absurd (omega (arith, told));
-            steps = for_capture _ (bounded octets took fits (f.takes).steps);
+            steps = for_job words (Capture c) is _ (bounded octets took fits (f.takes).steps);
             complete = λ s k w. absurd (k (sink told));
           }
 
@@ -269,11 +255,11 @@ module _ (c : CaptureJob) (words : List (List ℕ)) (is : job words ≡ Some (Ca
           let es = counted_here octets took fits in
           record {
             front = front octets took fits;
-            reach = for_capture _ (reach octets took fits);
+            reach = for_job words (Capture c) is _ (reach octets took fits);
             done = λ h. absurd (omega (arith, told));
             malformed = λ h. absurd (omega (arith, told));
             source_fault = λ h. absurd (omega (arith, told));
-            sink_fault = λ h. for_capture _ (inr (
+            sink_fault = λ h. for_job words (Capture c) is _ (inr (
               elim f.settled [
                 | inl ended ↦ inr (inl ended)
                 | inr bad ↦ inr (inr (subst (λ (s : List ℕ). FoundSoFar (Capture c) s (λ found. IsTrue (is_decided (Capture c) s found))) (sym es) (record { found = (f.found).found; are = (f.found).are; holds = bad })))
@@ -281,7 +267,7 @@ module _ (c : CaptureJob) (words : List (List ℕ)) (is : job words ≡ Some (Ca
               subst (λ (s : List ℕ). Found (Capture c) s (λ found. WroteFront (output (Capture c) s found) before after)) (sym es) f.found,
             ));
             limit = λ h. absurd (omega (arith, told));
-            steps = for_capture _ (bounded octets took fits (f.takes).steps);
+            steps = for_job words (Capture c) is _ (bounded octets took fits (f.takes).steps);
             complete = λ s k w. absurd (k (sink told));
           }
 
@@ -292,13 +278,13 @@ module _ (c : CaptureJob) (words : List (List ℕ)) (is : job words ≡ Some (Ca
           let es = counted_past octets f.octet f.took f.long in
           record {
             front = f.took ∙ ap (λ l. l ++ rest) (sym e);
-            reach = for_capture _ (omega (arith, size_past octets f.octet f.took f.long));
+            reach = for_job words (Capture c) is _ (omega (arith, size_past octets f.octet f.took f.long));
             done = λ h. absurd (omega (arith, told));
             malformed = λ h. absurd (omega (arith, told));
             source_fault = λ h. absurd (omega (arith, told));
-            sink_fault = λ h. for_capture _ (inl (subst (λ (s : List ℕ). FoundSoFar (Capture c) s (λ found. WroteFront (body (Capture c) s found) before after)) (sym es) f.found));
+            sink_fault = λ h. for_job words (Capture c) is _ (inl (subst (λ (s : List ℕ). FoundSoFar (Capture c) s (λ found. WroteFront (body (Capture c) s found) before after)) (sym es) f.found));
             limit = λ h. absurd (omega (arith, told));
-            steps = for_capture _ (subst (λ (s : List ℕ). steps_after ≤ steps_before + sum_by frame_cost (frames (Capture c) s)) (sym es) f.steps);
+            steps = for_job words (Capture c) is _ (subst (λ (s : List ℕ). steps_after ≤ steps_before + sum_by frame_cost (frames (Capture c) s)) (sym es) f.steps);
             complete = λ s k w. absurd (k (sink told));
           }
 
@@ -348,7 +334,7 @@ module _ (c : CaptureJob) (words : List (List ℕ)) (is : job words ≡ Some (Ca
     appended = take cut.0 all;
     whole = cut.1;
     usage = λ h. absurd (omega (arith, h, told));
-    usage_cut = λ h. where_none _;
+    usage_cut = λ h. where_none words (Capture c) is _;
     memory = λ h. absurd (omega (arith, h, told));
   }
 
@@ -363,7 +349,7 @@ module _ (c : CaptureJob) (words : List (List ℕ)) (is : job words ≡ Some (Ca
         appended = output (Capture c) j.octets (j.found).found;
         whole = (j.found).holds.1;
         usage = λ h. absurd (bound.two (sym judged ∙ h));
-        usage_cut = λ h. where_none _;
+        usage_cut = λ h. where_none words (Capture c) is _;
         memory = λ h. absurd (omega (arith, h, judged, bound.few));
       }
   written_by left left_after before after s0 s1 o _ (Broken p f) e =
@@ -372,7 +358,7 @@ module _ (c : CaptureJob) (words : List (List ℕ)) (is : job words ≡ Some (Ca
         appended = body (Capture c) f.octets (f.found).found;
         whole = (f.found).holds;
         usage = λ h. absurd (omega (arith, h, told));
-        usage_cut = λ h. where_none _;
+        usage_cut = λ h. where_none words (Capture c) is _;
         memory = λ h. absurd (omega (arith, h, told));
       }
   written_by left left_after before after s0 s1 o _ (Overrun p f) e =
@@ -381,7 +367,7 @@ module _ (c : CaptureJob) (words : List (List ℕ)) (is : job words ≡ Some (Ca
         appended = body (Capture c) f.octets (f.found).found;
         whole = (f.found).holds.1;
         usage = λ h. absurd (omega (arith, h, told));
-        usage_cut = λ h. where_none _;
+        usage_cut = λ h. where_none words (Capture c) is _;
         memory = λ h. absurd (omega (arith, h, told));
       }
   written_by left left_after before after s0 s1 o _ (Stopped x f) e = cut_by before after o (ap (λ (q : Outcome). q.status) e) (body (Capture c) f.octets (f.found).found) (f.found).holds
@@ -390,3 +376,33 @@ module _ (c : CaptureJob) (words : List (List ℕ)) (is : job words ≡ Some (Ca
 
   pub writing : (left left_after before after : Option (List ℕ)) (steps_before steps_after : ℕ) (o : Outcome) → EndsCapture c left left_after before after steps_before steps_after o → IsRightWriting words o.status before after
   writing left left_after before after s0 s1 o ends = written_by left left_after before after s0 s1 o ends.result ends.run ends.is
+
+  statuses : (left left_after before after : Option (List ℕ)) (steps_before steps_after : ℕ) (o : Outcome) (r : Result Outcome Failed)
+      → CaptureRun c left left_after before after steps_before steps_after r → IsOutcome r o → Statuses o.status
+  statuses left left_after before after s0 s1 o _ (Judged p j) e =
+      let told = (j.found).found.records in
+      let bound = end_status (capture j.octets).end (records_status c told) (few_statuses c told) in
+      let judged : o.status ≡ (end_verdict (records_status c told) (capture j.octets).end).status = ap (λ (q : Outcome). q.status) e ∙ ap (λ (v : Verdict). v.status) (j.found).holds.0 in
+      record { two = λ h. bound.two (sym judged ∙ h); four = λ h. omega (arith, h, judged, bound.few) }
+  statuses left left_after before after s0 s1 o _ (Broken p f) e = by_status 5 (ap (λ (q : Outcome). q.status) e ∙ f.told) (λ h. omega arith) (λ h. omega arith)
+  statuses left left_after before after s0 s1 o _ (Overrun p f) e = by_status 7 (ap (λ (q : Outcome). q.status) e ∙ f.told) (λ h. omega arith) (λ h. omega arith)
+  statuses left left_after before after s0 s1 o _ (Stopped x f) e = by_status 6 (ap (λ (q : Outcome). q.status) e) (λ h. omega arith) (λ h. omega arith)
+  statuses left left_after before after s0 s1 o _ (StoppedLast x f) e = by_status 6 (ap (λ (q : Outcome). q.status) e) (λ h. omega arith) (λ h. omega arith)
+  statuses left left_after before after s0 s1 o _ (StoppedBehind x f) e = by_status 6 (ap (λ (q : Outcome). q.status) e) (λ h. omega arith) (λ h. omega arith)
+
+-- all that is promised of the job
+pub right_capture : (c : CaptureJob) (left left_after before after : Option (List ℕ)) (source_before source_after sink_before sink_after steps_before steps_after : ℕ) (o : Outcome)
+    → EndsCapture c left left_after before after steps_before steps_after o → o.status ≤ 7 → AreCounted o.status o.at source_before source_after sink_before sink_after → (NothingRead NothingWritten : Type 0)
+    → IsRightFor (Some (Capture c)) left left_after before after source_before source_after sink_before sink_after steps_before steps_after o NothingRead NothingWritten
+right_capture c left left_after before after source_before source_after sink_before sink_after steps_before steps_after o ends few faults NothingRead NothingWritten words is =
+    let no = statuses c words is left left_after before after steps_before steps_after o ends.result ends.run ends.is in
+    record {
+      few = few;
+      usage = record { told = λ none. absurd (not_none words (Capture c) is none); only = λ h. absurd (no.two h) };
+      limit = λ h. (some words (Capture c) is, for_job words (Capture c) is (λ j. input_limit j ≡ Some CAPTURE_LIMIT) refl);
+      memory = λ h. absurd (no.four h);
+      faults = faults;
+      unread = for_job words (Capture c) is (OnUnread _) tt;
+      writing = writing c words is left left_after before after steps_before steps_after o ends;
+      octets = right c words is before after source_before source_after sink_before sink_after steps_before steps_after o faults.source faults.sink left left_after ends;
+    }

@@ -1,11 +1,10 @@
 //! The job `check`: how many packets and refusals a capture has.
 ghost use Rattle.std.specs.Prelude.{◌≡◌, ◌+◌, ◌*◌, ◌-◌, ◌≤◌, ◌++◌, ◌∷◌, [], decimal, length};
 ghost use Rattle.narc_packet.specs.declared.field.TheConstants.{COUNT};
-ghost use Rattle.narc_run.specs.Job.{Check};
+ghost use Rattle.narc_run.specs.Job.{Capture, Check};
 ghost use Rattle.narc_run.specs.Output.{check_end, refused_line};
 ghost use Rattle.narc_run.specs.Counting.{AreCounts, counts_lines, refusal_lines};
-ghost use Rattle.narc_run.specs.CaptureRun.{EndsCapture};
-ghost use Rattle.narc_run.specs.Run.{AreCounted};
+ghost use Rattle.narc_run.specs.RightJob.{IsRightFor};
 
 use crate::counts::{Counts, NUMBERS};
 use crate::entry::judge_record;
@@ -15,9 +14,10 @@ use crate::visitor::Visitor;
 use crate::walk::run_walk;
 use narc_format::Field;
 use narc_packet::field;
-use narc_pcap::{End, Header, LONGEST_RECORD, Reader, Record};
+use narc_pcap::{End, Header, Reader, Record};
 use narc_text::{PAGE_SIZE, Page, put_decimal};
 use narc_world::{Failed, Sink, Source};
+use std::alloc::Global;
 use std::sync::ledger::Ledger;
 
 /// As many octets as a line has at most: a word, a space or two, a field's name and a number.
@@ -121,17 +121,14 @@ impl Visitor for Counts {
     }
 }
 
-/// Reads a capture from the source by way of the buffer, and writes what it counted.
+/// Reads a capture from the source, and writes what it counted.
 pub(crate) fn run_check<S: Source, K: Sink, L: Ledger, J: Ledger>(
-    input: Vec<u8>,
+    alloc: Global,
     source: &mut S,
     sink: &mut K,
     steps: &mut RunSteps<L, J>,
 ) -> Outcome
-    requires { LONGEST_RECORD ≤ length input.items }
-    ensures run { EndsCapture Check (S.left source.old) (S.left source.new) (K.held sink.old) (K.held sink.new) steps.old steps.new result }
-    ensures status { result.status ≤ 7 }
-    ensures faults { AreCounted result.status result.at (S.faults source.old) (S.faults source.new) (K.faults sink.old) (K.faults sink.new) }
+    ensures { IsRightFor (Some (Capture Check)) (S.left source.old) (S.left source.new) (K.held sink.old) (K.held sink.new) (S.faults source.old) (S.faults source.new) (K.faults sink.old) (K.faults sink.new) steps.old steps.new result (source.new ≡ source.old) (sink.new ≡ sink.old) }
 {
-    run_walk(&mut Counts::new(), input, source, sink, steps)
+    run_walk(alloc, &mut Counts::new(), source, sink, steps)
 }

@@ -7,8 +7,11 @@ ghost use Rattle.narc_text.specs.Lines.{ok_line};
 ghost use Rattle.narc_text.specs.Printing.{IsPrinted};
 ghost use Rattle.narc_run.specs.Output.{answer_line, refusal_line};
 ghost use Rattle.narc_run.specs.FrameRun.{FrameRun, IsAnswered, IsCut};
+ghost use Rattle.narc_run.specs.Job.{Frame};
+ghost use Rattle.narc_run.specs.RightJob.{IsRightFor};
 ghost use Rattle.narc_run.specs.Run.{AreCounted};
 
+use crate::buffer::zeros;
 use crate::input::{Filled, fill};
 use crate::outcome::Outcome;
 use crate::steps::RunSteps;
@@ -17,6 +20,7 @@ use narc_packet::{Packet, field};
 use narc_stack::{Refusal, decode_frame};
 use narc_text::{Page, print_packet, put_decimal};
 use narc_world::{FRAME_BUFFER, Failed, Sink, Source};
+use std::alloc::Global;
 use std::sync::ledger::Ledger;
 
 /// More octets than the line of a refusal has.
@@ -95,7 +99,7 @@ fn answer_frame<K: Sink, L: Ledger, J: Ledger>(
 }
 
 /// Reads the whole input into the buffer, and answers it.
-pub(crate) fn run_frame<S: Source, K: Sink, L: Ledger, J: Ledger>(
+fn answer_input<S: Source, K: Sink, L: Ledger, J: Ledger>(
     buffer: &mut [u8],
     source: &mut S,
     sink: &mut K,
@@ -113,5 +117,20 @@ pub(crate) fn run_frame<S: Source, K: Sink, L: Ledger, J: Ledger>(
             Ok(outcome) => outcome,
             Err(_) => Outcome::sink_fault(),
         },
+    }
+}
+
+/// Reads the whole input, and answers it.
+pub(crate) fn run_frame<S: Source, K: Sink, L: Ledger, J: Ledger>(
+    alloc: Global,
+    source: &mut S,
+    sink: &mut K,
+    steps: &mut RunSteps<L, J>,
+) -> Outcome
+    ensures { IsRightFor (Some Frame) (S.left source.old) (S.left source.new) (K.held sink.old) (K.held sink.new) (S.faults source.old) (S.faults source.new) (K.faults sink.old) (K.faults sink.new) steps.old steps.new result (source.new ≡ source.old) (sink.new ≡ sink.old) }
+{
+    match zeros(alloc, FRAME_BUFFER) {
+        Ok(mut buffer) => answer_input(&mut buffer, source, sink, steps),
+        Err(_) => Outcome::no_memory(),
     }
 }

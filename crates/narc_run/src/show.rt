@@ -2,11 +2,10 @@
 ghost use Rattle.std.specs.Prelude.{◌≡◌, ◌+◌, ◌≤◌, ◌++◌, length, OnErr};
 ghost use Rattle.narc_world.specs.Outside.{CountsFaults};
 ghost use Rattle.narc_text.specs.Printing.{IsPrinted};
-ghost use Rattle.narc_run.specs.Job.{Show};
+ghost use Rattle.narc_run.specs.Job.{Capture, Show};
 ghost use Rattle.narc_run.specs.Output.{header_line};
 ghost use Rattle.narc_run.specs.Tallies.{tally_line, tally_of};
-ghost use Rattle.narc_run.specs.CaptureRun.{EndsCapture};
-ghost use Rattle.narc_run.specs.Run.{AreCounted};
+ghost use Rattle.narc_run.specs.RightJob.{IsRightFor};
 
 use crate::entry::{answer_record, print_record};
 use crate::outcome::Outcome;
@@ -14,9 +13,10 @@ use crate::steps::RunSteps;
 use crate::tally::Tally;
 use crate::visitor::Visitor;
 use crate::walk::run_walk;
-use narc_pcap::{End, Header, LONGEST_RECORD, Reader, Record, Unit};
+use narc_pcap::{End, Header, Reader, Record, Unit};
 use narc_text::{LINE, PAGE_SIZE, Page, put_decimal};
 use narc_world::{Failed, Sink, Source};
+use std::alloc::Global;
 use std::sync::ledger::Ledger;
 
 /// The line of a capture's header.
@@ -120,20 +120,17 @@ impl Visitor for Lister {
     }
 }
 
-/// Reads a capture from the source into the buffer, and prints it as it comes.
+/// Reads a capture from the source, and prints it as it comes.
 pub(crate) fn run_show<S: Source, K: Sink, L: Ledger, J: Ledger>(
-    input: Vec<u8>,
+    alloc: Global,
     source: &mut S,
     sink: &mut K,
     steps: &mut RunSteps<L, J>,
 ) -> Outcome
-    requires { LONGEST_RECORD ≤ length input.items }
-    ensures run { EndsCapture Show (S.left source.old) (S.left source.new) (K.held sink.old) (K.held sink.new) steps.old steps.new result }
-    ensures status { result.status ≤ 7 }
-    ensures faults { AreCounted result.status result.at (S.faults source.old) (S.faults source.new) (K.faults sink.old) (K.faults sink.new) }
+    ensures { IsRightFor (Some (Capture Show)) (S.left source.old) (S.left source.new) (K.held sink.old) (K.held sink.new) (S.faults source.old) (S.faults source.new) (K.faults sink.old) (K.faults sink.new) steps.old steps.new result (source.new ≡ source.old) (sink.new ≡ sink.old) }
 {
     let mut lister = Lister {
         tally: Tally::new(),
     };
-    run_walk(&mut lister, input, source, sink, steps)
+    run_walk(alloc, &mut lister, source, sink, steps)
 }

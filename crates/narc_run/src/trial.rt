@@ -5,12 +5,13 @@ ghost use Rattle.narc_run.specs.Job.{Trial};
 ghost use Rattle.narc_run.specs.Output.{trial_line};
 ghost use Rattle.narc_run.specs.UnreadRun.{UnreadRun};
 
+use crate::buffer::zeros;
 use crate::outcome::Outcome;
 use crate::steps::RunSteps;
-use narc_bits::MAX_FRAME;
 use narc_text::{PAGE_SIZE, Page, put_decimal};
-use narc_trial::{MADE_OCTETS, TrialCounts, try_packets};
-use narc_world::{Failed, Sink};
+use narc_trial::{TrialCounts, try_packets};
+use narc_world::{FRAME_BUFFER, Failed, STORE_BUFFER, Sink};
+use std::alloc::Global;
 use std::sync::ledger::Ledger;
 
 /// More octets than the line has.
@@ -58,22 +59,23 @@ fn tell_trial<K: Sink>(
     page.flush(sink)
 }
 
-/// Tries so many packets from a number on, with a buffer for their frames and one for what they are made of, and writes
-/// what was found.
+/// Tries so many packets from a number on, and writes what was found.
 pub(crate) fn run_trial<K: Sink, L: Ledger, J: Ledger>(
+    alloc: Global,
     seed: u32,
     count: u32,
-    frame: &mut [u8],
-    store: &mut [u8],
     sink: &mut K,
     steps: &mut RunSteps<L, J>,
 ) -> Outcome
-    requires frame { MAX_FRAME ≤ length frame.old }
-    requires store { MADE_OCTETS ≤ length store.old }
-    ensures run { UnreadRun (Trial seed count) (K.held sink.old) (K.held sink.new) steps.old steps.new result.status result.at }
-    ensures faults { CountsFaults (λ rose. result.status ≡ 6 → rose) (K.faults sink.old) (K.faults sink.new) }
+    ensures { UnreadRun (Trial seed count) (K.held sink.old) (K.held sink.new) (K.faults sink.old) (K.faults sink.new) steps.old steps.new result (sink.new ≡ sink.old) }
 {
-    let counts = try_packets(seed, count, frame, store, &mut steps.decoding);
+    let Ok(mut frame) = zeros(alloc, FRAME_BUFFER) else {
+        return Outcome::no_memory();
+    };
+    let Ok(mut store) = zeros(alloc, STORE_BUFFER) else {
+        return Outcome::no_memory();
+    };
+    let counts = try_packets(seed, count, &mut frame, &mut store, &mut steps.decoding);
     match tell_trial(seed, count, &counts, sink) {
         Ok(()) => Outcome::done(),
         Err(_) => Outcome::sink_fault(),

@@ -4,14 +4,18 @@ ghost use Rattle.narc_world.specs.Outside.{CountsFaults};
 ghost use Rattle.narc_text.specs.Printing.{IsPrinted};
 ghost use Rattle.narc_run.specs.Visiting.{Finishes};
 ghost use Rattle.narc_run.specs.CaptureRun.{CaptureRun, EndsCapture, IsShown};
+ghost use Rattle.narc_run.specs.Job.{Capture};
+ghost use Rattle.narc_run.specs.RightJob.{IsRightFor};
 ghost use Rattle.narc_run.specs.Run.{AreCounted};
 
+use crate::buffer::zeros;
 use crate::outcome::Outcome;
 use crate::steps::RunSteps;
 use crate::visitor::Visitor;
 use narc_pcap::{End, LONGEST_RECORD, Next, Reader, Started};
 use narc_text::Page;
-use narc_world::{Failed, Sink, Source};
+use narc_world::{Failed, INPUT_BUFFER, Sink, Source};
+use std::alloc::Global;
 use std::sync::ledger::Ledger;
 
 /// Prints what is written for the end, and pushes all that is on the page.
@@ -90,7 +94,7 @@ fn walk<V: Visitor, S: Source, K: Sink, L: Ledger, J: Ledger>(
 }
 
 /// Reads a capture from the source by way of the buffer, and shows it to the visitor as it comes.
-pub(crate) fn run_walk<V: Visitor, S: Source, K: Sink, L: Ledger, J: Ledger>(
+fn walk_to_end<V: Visitor, S: Source, K: Sink, L: Ledger, J: Ledger>(
     visitor: &mut V,
     input: Vec<u8>,
     source: &mut S,
@@ -106,5 +110,22 @@ pub(crate) fn run_walk<V: Visitor, S: Source, K: Sink, L: Ledger, J: Ledger>(
     match walk(visitor, input, source, sink, steps) {
         Ok(outcome) => outcome,
         Err(_) => Outcome::sink_fault(),
+    }
+}
+
+/// Reads a capture from the source by way of a buffer of its own, and shows it to the visitor as it comes.
+pub(crate) fn run_walk<V: Visitor, S: Source, K: Sink, L: Ledger, J: Ledger>(
+    alloc: Global,
+    visitor: &mut V,
+    source: &mut S,
+    sink: &mut K,
+    steps: &mut RunSteps<L, J>,
+) -> Outcome
+    requires { V.saw visitor.old None [] }
+    ensures { IsRightFor (Some (Capture (V.job visitor.old))) (S.left source.old) (S.left source.new) (K.held sink.old) (K.held sink.new) (S.faults source.old) (S.faults source.new) (K.faults sink.old) (K.faults sink.new) steps.old steps.new result (source.new ≡ source.old) (sink.new ≡ sink.old) }
+{
+    match zeros(alloc, INPUT_BUFFER) {
+        Ok(input) => walk_to_end(visitor, input, source, sink, steps),
+        Err(_) => Outcome::no_memory(),
     }
 }

@@ -1,17 +1,16 @@
-use Rattle.std.proofs.Common.{inr, take, refl, sym, subst, arith, length-take}
-use Rattle.narc_run.specs.FrameRun.{FrameRun, Ended}
+use Rattle.std.proofs.Common.{refl}
+use Rattle.narc_run.specs.Job.{Frame}
+use Rattle.narc_run.proofs.FrameRuns.{right_frame}
+use Rattle.narc_run.proofs.RightJobs.{lacking}
 use Rattle.narc_run.proofs.frame.run_frame.Goals as goal
 
-pub returns-in-Err-clause-run : goal.returns-in-Err-clause-run
-returns-in-Err-clause-run g c =
-    let filled = c.in-Whole.ensures.filled in
-    subst (λ outcome. FrameRun (g.S.Source.left c.args.source.now) (g.S.Source.left c.fill.new.source) (g.K.Sink.held c.args.sink.now) (g.K.Sink.held c.answer_frame.new.sink) c.args.steps.now c.answer_frame.new.steps outcome.status outcome.at)
-    (sym c.sink_fault.ensures)
-    (Ended (record {
-      octets = take c.in-Whole.count c.fill.new.buffer;
-      took = filled.1;
-      ended = filled.2;
-      fits = omega (arith, length-take c.in-Whole.count c.fill.new.buffer, filled.0, c.in-Whole.ensures.len, c.requires);
-      answered = inr (refl, refl, c.in-Err.ensures.told);
-      steps = c.in-Err.ensures.cost;
-    }))
+pub returns-in-Ok : goal.returns-in-Ok
+returns-in-Ok g c =
+    right_frame (g.S.Source.left c.args.source.now) (g.S.Source.left c.answer_input.new.source) (g.K.Sink.held c.args.sink.now) (g.K.Sink.held c.answer_input.new.sink)
+    (g.S.Source.faults c.args.source.now) (g.S.Source.faults c.answer_input.new.source) (g.K.Sink.faults c.args.sink.now) (g.K.Sink.faults c.answer_input.new.sink)
+    c.args.steps.now c.answer_input.new.steps c.answer_input.result c.answer_input.ensures.run c.answer_input.ensures.status c.answer_input.ensures.faults _ _
+
+pub returns-in-Err : goal.returns-in-Err
+returns-in-Err g c =
+    lacking Frame (λ same. cc) (g.S.Source.left c.args.source.now) (g.K.Sink.held c.args.sink.now) (g.S.Source.faults c.args.source.now) (g.K.Sink.faults c.args.sink.now) c.args.steps.now
+    c.no_memory.result c.no_memory.ensures _ _ refl refl

@@ -1,20 +1,22 @@
-use Rattle.std.proofs.Common.{◌≡◌, ◌+◌, inl, inr, refl, sym, ◌∙◌, subst, arith}
-use Rattle.narc_run.specs.Job.{Trial}
-use Rattle.narc_run.specs.UnreadRun.{UnreadRun}
-use Rattle.narc_run.proofs.UnreadRuns.{trial-run}
-use Rattle.narc_run.proofs.trial.run_trial.Goals.{in-Ok, in-Err}
+use Rattle.std.proofs.Common.{◌≡◌, ◌+◌, arith}
+use Rattle.narc_run.specs.Output.{trial_line}
+use Rattle.narc_run.proofs.UnreadRuns.{trial-run, done_line, cut_line}
 use Rattle.narc_run.proofs.trial.run_trial.Goals as goal
 
-pub returns-clause-run : goal.returns-clause-run
-returns-clause-run g c =
-    let before = g.K.Sink.held c.args.sink.now in
-    let after = g.K.Sink.held c.tell_trial.new.sink in
+pub returns-in-Ok-tell_trial : goal.returns-in-Ok-tell_trial
+returns-in-Ok-tell_trial g c =
     let all : c.steps.inside.decoding + c.steps.inside.judging ≡ c.args.steps.now = c.steps.view_is in
-    let steps = c.try_packets-counts.new.steps + c.steps.inside.judging in
-    let run = trial-run c.args.seed c.args.count c.try_packets-counts.result before after c.args.steps.now steps in
-    elim c.match-tell_trial.branch [
-      | in-Ok w ↦ subst (λ outcome. UnreadRun (Trial c.args.seed c.args.count) before after c.args.steps.now steps outcome.status outcome.at) (sym (w.result-is ∙ w.done.ensures))
-          (run 0 0 c.try_packets-counts.ensures.trial refl (omega (arith, all, c.try_packets-counts.ensures.cost)) (inl (refl, w.in-Ok.ensures.pushed)))
-      | in-Err w ↦ subst (λ outcome. UnreadRun (Trial c.args.seed c.args.count) before after c.args.steps.now steps outcome.status outcome.at) (sym (w.result-is ∙ w.sink_fault.ensures))
-          (run 6 0 c.try_packets-counts.ensures.trial refl (omega (arith, all, c.try_packets-counts.ensures.cost)) (inr (refl, w.in-Err.ensures.pushed)))
-    ]
+    let counts = c.try_packets-counts.result in
+    let line = trial_line c.args.seed c.args.count counts in
+    trial-run c.args.seed c.args.count counts _ _ _ _ c.args.steps.now (c.try_packets-counts.new.steps + c.steps.inside.judging) c.done.result _ c.try_packets-counts.ensures.trial
+    (omega (arith, all, c.try_packets-counts.ensures.cost))
+    (done_line line _ _ _ _ c.done.result c.done.ensures c.in-Ok-tell_trial.ensures.pushed c.in-Ok-tell_trial.ensures.faults.later)
+
+pub returns : goal.returns
+returns g c =
+    let all : c.steps.inside.decoding + c.steps.inside.judging ≡ c.args.steps.now = c.steps.view_is in
+    let counts = c.try_packets-counts.result in
+    let line = trial_line c.args.seed c.args.count counts in
+    trial-run c.args.seed c.args.count counts _ _ _ _ c.args.steps.now (c.try_packets-counts.new.steps + c.steps.inside.judging) c.sink_fault.result _ c.try_packets-counts.ensures.trial
+    (omega (arith, all, c.try_packets-counts.ensures.cost))
+    (cut_line line _ _ _ _ c.sink_fault.result c.sink_fault.ensures c.in-Err.ensures.pushed c.in-Err.ensures.faults.later c.in-Err.ensures.faults.cause)
