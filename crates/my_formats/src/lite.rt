@@ -66,15 +66,9 @@ pub struct CoveredOctets;
 impl Count for CoveredOctets {
     type Ctx = u64;
 
-    ghost octets_of = { λ c. c - 8 };
-
     ghost count_of = { λ c. c - 8 };
 
     ghost valid = { λ c. c < 2 ^ 16 };
-
-    fn octets(ctx: u64) -> usize {
-        ctx.saturating_sub(8) as usize
-    }
 
     fn count(ctx: u64) -> usize {
         ctx.saturating_sub(8) as usize
