@@ -67,15 +67,9 @@ pub struct ContextOctets;
 impl Count for ContextOctets {
     type Ctx = usize;
 
-    ghost octets_of = { λ c. c };
-
     ghost count_of = { λ c. c };
 
     ghost valid = { λ c. c < 2 ^ 64 };
-
-    fn octets(ctx: usize) -> usize {
-        ctx
-    }
 
     fn count(ctx: usize) -> usize {
         ctx

@@ -10,15 +10,9 @@ pub struct AsMany;
 impl Count for AsMany {
     type Ctx = usize;
 
-    ghost octets_of = { λ c. c };
-
     ghost count_of = { λ c. c };
 
     ghost valid = { λ c. c < 2 ^ 64 };
-
-    fn octets(ctx: usize) -> usize {
-        ctx
-    }
 
     fn count(ctx: usize) -> usize {
         ctx

@@ -67,15 +67,9 @@ pub struct ContentOctets;
 impl Count for ContentOctets {
     type Ctx = ContentContext;
 
-    ghost octets_of = { λ c. c.octets };
-
     ghost count_of = { λ c. c.octets };
 
     ghost valid = { IsContentContext };
-
-    fn octets(ctx: ContentContext) -> usize {
-        ctx.octets
-    }
 
     fn count(ctx: ContentContext) -> usize {
         ctx.octets

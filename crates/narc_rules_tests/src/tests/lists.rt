@@ -35,15 +35,9 @@ struct Two;
 impl Count for Two {
     type Ctx = ();
 
-    ghost octets_of = { λ c. 2 };
-
     ghost count_of = { λ c. 2 };
 
     ghost valid = { λ c. Unit {0} };
-
-    fn octets(_ctx: ()) -> usize {
-        2
-    }
 
     fn count(_ctx: ()) -> usize {
         2
