@@ -7,8 +7,8 @@ mod sized;
 
 pub use narc_bits::{Cursor, Input, MAX_FRAME, Steps, Writer};
 pub use narc_compose::{
-    Carry, Choose, Either, FormatPart, Gap, Measure, Measured, Named, NoContext, Part, Parted,
-    PartedFormat, Pick, Seq, SeqTail, Strip, Then, Union,
+    Carry, Choose, Either, ForFirst, ForSecond, FormatPart, Gap, Measure, Measured, Named,
+    NoContext, Part, Parted, PartedFormat, Pick, Seq, SeqTail, Strip, Then, Union,
 };
 pub use narc_format::{
     Fault, Field, Format, Front, Gather, Hole, Holed, HoledTail, Tail, Wide, Width, read_all,

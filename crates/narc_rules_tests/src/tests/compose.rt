@@ -1,13 +1,12 @@
 //! Sequences, names, unions, and values seen as others.
-#![tactic(auto, unfolding(narc_compose::specs::Seq::seq, narc_compose::specs::Seq::seq_tail, narc_compose::specs::Named::named, narc_compose::specs::Strip::stripped, narc_compose::specs::Union::united, narc_compose::specs::Whole::as_whole, narc_scalar::specs::Word::word, narc_list::specs::Bytes::all_octets, narc_bits::specs::Bits::bits_of_number, narc_bits::specs::Bits::bits))]
+#![tactic(auto, unfolding(narc_compose::specs::Seq::seq, narc_compose::specs::Seq::seq_tail, narc_compose::specs::Named::named, narc_compose::specs::Strip::stripped, narc_compose::specs::Union::united, narc_scalar::specs::Word::word, narc_list::specs::Bytes::all_octets, narc_bits::specs::Bits::bits_of_number, narc_bits::specs::Bits::bits))]
 
 use super::calls::{width, write, write_all};
 use super::samples::{
-    DATAGRAM, DESTINATION, Datagram, HIGH, Halves, Kinded, KindedTail, LOW, Octets, Ports, SOURCE,
-    Spare, SpareTail,
+    DATAGRAM, DESTINATION, Datagram, Kinded, KindedTail, Ports, SOURCE, Spare, SpareTail,
 };
 use narc_bits::Cursor;
-use narc_compose::{Either, Named, Whole};
+use narc_compose::{Either, Named};
 use narc_format::{Fault, Field, Front, read_all, read_front};
 
 /// A fault of the field with this number.
@@ -46,23 +45,6 @@ fn a_fault_of_the_second_part_is_moved_and_keeps_its_name(rt: HostRuntime) {
 #[test]
 fn an_unnamed_fault_gets_the_name(rt: HostRuntime) {
     assert!(rt; read_front::<Ports>((), &[0]) == Err(fault(SOURCE, 0)));
-}
-
-#[test]
-fn a_whole_format_is_refused_at_its_beginning(rt: HostRuntime) {
-    assert!(rt; read_front::<Whole<Halves>>((), &[]) == Err(fault(HIGH, 0)));
-    let read = read_front::<Whole<Halves>>((), &[0x45]);
-    assert!(rt;
-        read == Ok(Front {
-            value: (4, 5),
-            bits: 8
-        })
-    );
-    assert!(rt; read_front::<Octets>((), &[4]) == Err(fault(LOW, 8)));
-    assert!(rt; read_front::<Whole<Octets>>((), &[4]) == Err(fault(LOW, 0)));
-    let mut room = [0xff, 0xff];
-    assert!(rt; write::<Cursor<'_>, Whole<Halves>>((), &(4, 5), &mut room) == (8, 8));
-    assert!(rt; room == [0x45, 0xff]);
 }
 
 #[test]

@@ -20,10 +20,6 @@ pub const DESTINATION: u8 = 2;
 
 pub const DATAGRAM: u8 = 3;
 
-pub const HIGH: u8 = 4;
-
-pub const LOW: u8 = 5;
-
 /// The first part is the context of the second.
 pub struct Kind;
 
@@ -148,7 +144,3 @@ pub type KindedTail = SeqTail<
 pub type Spare = Strip<Then<Word<1>, Word<7>>, WithoutBit>;
 
 pub type SpareTail = Strip<SeqTail<Word<8>, Bytes, NoContext>, WithoutOctet>;
-
-pub type Halves = Then<Named<Word<4>, HIGH>, Named<Word<4>, LOW>>;
-
-pub type Octets = Then<Named<Word<8>, HIGH>, Named<Word<8>, LOW>>;

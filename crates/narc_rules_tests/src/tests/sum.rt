@@ -1,7 +1,7 @@
 //! The rules for checksums at concrete types, behind a pseudo header of the octets 0 and 17.
-#![tactic(auto, using(crate::proofs::Sums::checked_sound, crate::proofs::Sums::checked_or_none_sound, crate::proofs::Sums::checked_tail_sound), unfolding(narc_sum::specs::Checked::checked, narc_sum::specs::Checked::checked_or_none, narc_sum::specs::Checked::checked_tail, narc_compose::specs::Gap::gapped, narc_compose::specs::Seq::seq_tail, narc_scalar::specs::Word::word, narc_list::specs::Bytes::all_octets, narc_bits::specs::Bits::bits_of_number, narc_bits::specs::Bits::bits, narc_bits::specs::InternetSum::total))]
+#![tactic(auto, using(crate::proofs::Sums::checked_sound, crate::proofs::Sums::checked_or_none_sound, crate::proofs::Sums::checked_tail_sound, crate::proofs::Sums::any_tail_sound), unfolding(narc_sum::specs::Checked::checked, narc_sum::specs::Checked::checked_or_none, narc_sum::specs::Checked::checked_tail, narc_compose::specs::Gap::gapped, narc_compose::specs::Seq::seq_tail, narc_scalar::specs::Word::word, narc_list::specs::Bytes::all_octets, narc_bits::specs::Bits::bits_of_number, narc_bits::specs::Bits::bits, narc_bits::specs::InternetSum::total))]
 
-ghost use Rattle.std.specs.Prelude.{◌∷◌, []};
+ghost use Rattle.std.specs.Prelude.{◌∷◌, [], false};
 
 use super::calls::{write, write_all};
 use narc_bits::Cursor;
@@ -9,7 +9,7 @@ use narc_compose::{Gap, NoContext, SeqTail};
 use narc_format::{Fault, Front, read_all, read_front};
 use narc_list::Bytes;
 use narc_scalar::Word;
-use narc_sum::{Checked, CheckedOrNone, CheckedTail, Pseudo};
+use narc_sum::{Checked, CheckedOrNone, CheckedTail, Judge, Pseudo};
 
 /// The octets 0 and 17.
 struct Protocol;
@@ -22,11 +22,26 @@ impl Pseudo<()> for Protocol {
     }
 }
 
+/// In no context.
+struct Never;
+
+impl Judge<()> for Never {
+    ghost judges_of = { λ c. false };
+
+    fn judges(_ctx: ()) -> bool {
+        false
+    }
+}
+
 type Port = Checked<Gap<Word<16>>, Protocol>;
 
 type PortOrNone = CheckedOrNone<Gap<Word<16>>, Protocol>;
 
 type Segment = CheckedTail<SeqTail<Gap<Word<16>>, Bytes, NoContext>, Protocol>;
+
+type AnyPort = CheckedOrNone<Gap<Word<16>>, Protocol, Never>;
+
+type AnySegment = CheckedTail<SeqTail<Gap<Word<16>>, Bytes, NoContext>, Protocol, Never>;
 
 #[test]
 fn a_checksum_makes_the_sum_good(rt: HostRuntime) {
@@ -78,4 +93,16 @@ fn a_checked_tail_is_summed_to_its_end(rt: HostRuntime) {
     let value = (1, [2].as_slice());
     assert!(rt; write_all::<Cursor<'_>, Segment>((), &value, &mut room) == (40, 40));
     assert!(rt; room == [0, 1, 0xfd, 0xed, 2, 0xaa]);
+}
+
+#[test]
+fn a_sum_that_is_not_judged_is_any(rt: HostRuntime) {
+    let port = read_front::<AnyPort>((), &[0, 1, 0, 1]);
+    assert!(rt; port == Ok(Front { value: 1, bits: 32 }));
+    assert!(rt; read_front::<AnyPort>((), &[0, 1, 0xff, 0xed]) == port);
+    let segment = read_all::<AnySegment>((), &[0, 1, 0xfd, 0xed, 3]);
+    assert!(rt; segment == Ok((1, [3].as_slice())));
+    let mut room = [0xaa; 4];
+    assert!(rt; write::<Cursor<'_>, AnyPort>((), &0xffee, &mut room) == (32, 32));
+    assert!(rt; room == [0xff, 0xee, 0xff, 0xff]);
 }
