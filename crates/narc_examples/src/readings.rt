@@ -78,15 +78,9 @@ pub struct AsFew;
 impl Count for AsFew {
     type Ctx = usize;
 
-    ghost octets_of = { λ c. c };
-
     ghost count_of = { λ c. c };
 
     ghost valid = { λ c. c ≤ 4 };
-
-    fn octets(ctx: usize) -> usize {
-        ctx
-    }
 
     fn count(ctx: usize) -> usize {
         ctx
