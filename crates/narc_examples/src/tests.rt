@@ -116,20 +116,22 @@ fn a_header_is_read_whatever_its_reserved_bits(rt: HostRuntime) {
     assert!(rt; read_vxlan(&[0xff, 1, 2, 3, 0x12, 0x34, 0x56, 9, 9]) == read);
 }
 
+/// A fault of the field with this number.
+fn at(field: u8, at: u64) -> Fault {
+    Fault {
+        field: Field::of(field),
+        at,
+    }
+}
+
 #[test]
 fn a_header_is_refused_at_the_field_that_is_wrong(rt: HostRuntime) {
-    let flag = Fault {
-        field: Field::of(FLAG),
-        at: 4,
-    };
-    assert!(rt; read_vxlan(&[0xf7, 0, 0, 0, 0x12, 0x34, 0x56, 0]) == Err(flag));
-    assert!(rt; field_name(flag.field) == "vxlan.flag");
-    let identifier = Fault {
-        field: Field::of(IDENTIFIER),
-        at: 32,
-    };
-    assert!(rt; read_vxlan(&[0x08, 0, 0, 0, 0x12, 0x34]) == Err(identifier));
-    assert!(rt; field_name(identifier.field) == "vxlan.identifier");
+    let no_flag = read_vxlan(&[0xf7, 0, 0, 0, 0x12, 0x34, 0x56, 0]);
+    assert!(rt; no_flag == Err(at(FLAG, 4)));
+    let short = read_vxlan(&[0x08, 0, 0, 0, 0x12, 0x34]);
+    assert!(rt; short == Err(at(IDENTIFIER, 32)));
+    assert!(rt; field_name(Field::of(FLAG)) == "vxlan.flag");
+    assert!(rt; field_name(Field::of(IDENTIFIER)) == "vxlan.identifier");
 }
 
 #[test]
