@@ -1,6 +1,7 @@
 -- The fields before the checksum meet the conditions of their rules.
-use Rattle.std.proofs.Common.{◌≡◌, ℕ, ◌^◌, ◌<◌, Bool, List, [], ◌++◌, length, IsTrue, refl, sym, ap, ◌∙◌, arith, lit≤, length-append, append-nil, append_assoc}
-use Rattle.narc_bits.specs.Bits.{bits_of_number}
+use Rattle.std.proofs.Common.{◌≡◌, ℕ, ◌/◌, ◌^◌, ◌<◌, Bool, List, length, IsTrue, refl, sym, ap, subst, arith, lit≤, length-append}
+use Rattle.std.proofs.lemmas.Bool.{eqb-true}
+use Rattle.narc_bits.specs.Bits.{number_of_bits}
 use Rattle.narc_bits.proofs.Numbers.{length-bits_of_number}
 use Rattle.narc_format.specs.Widths.{IsWide}
 use Rattle.narc_format.proofs.Widths.{wide-sized}
@@ -8,6 +9,7 @@ use Rattle.narc_scalar.specs.Tested.{tested}
 use Rattle.narc_scalar.specs.Word.{word}
 use Rattle.narc_compose.specs.Named.{named}
 use Rattle.narc_compose.specs.Seq.{seq}
+use Rattle.narc_sum.proofs.SomeSums.{some_number, some-front}
 use Rattle.narc_ipv4.specs.Laws.{ip_before_laws}
 use Rattle.narc_ipv4.specs.Header.{is_version, is_header_length, is_total_length, is_flags, header_length_of, RawBefore, first_octet, ip_lengths, ip_middle, ip_before}
 use Rattle.narc_layout.proofs.Sizes.{pair_eq}
@@ -147,18 +149,20 @@ front_size c v b p =
 pub front_wide : IsWide ip_before 80
 front_wide = wide-sized ip_before_laws (λ s. front_size)
 
--- the bits begin with these
-pub record Starts (x b : List Bool) : Type 0 where
-  pub later : List Bool
-  pub is : b ≡ x ++ later
-
-pub more : (x front back b : List Bool) → b ≡ front ++ back → Starts x front → Starts x b
-more x f d b h s = record { later = s.later ++ d; is = h ∙ ap (λ l. l ++ d) s.is ∙ append_assoc x s.later d }
-
-pub front_starts : (c : ℕ) (v : RawBefore) (b : List Bool) → ip_before.stands c v b → Starts (bits_of_number 8 v.0.0.0) b × (v.0.0.0 < 2 ^ 8) × IsTrue (is_version tt v.0.0.0) × IsTrue (is_header_length tt v.0.0.0)
+-- the tests of the first octet
+pub front_tests : (c : ℕ) (v : RawBefore) (b : List Bool) → ip_before.stands c v b → IsTrue (is_version tt v.0.0.0) × IsTrue (is_header_length tt v.0.0.0)
 unfolding seq named tested word
-front_starts c v b p =
+front_tests c v b p = let first = p.first.first.first in (first.0.1, first.1)
+
+pub version_four : (first : ℕ) → IsTrue (is_version tt first) → first / 16 ≡ 4
+version_four first h = eqb-true (first / 16) 4 h
+
+-- the bits are not all 0, since the version is 4
+pub front_some : (c : ℕ) (v : RawBefore) (b : List Bool) → ip_before.stands c v b → 0 < number_of_bits b
+unfolding seq named tested word
+front_some c v b p =
     let l = p.first in
     let o = l.first in
-    let start : Starts (bits_of_number 8 v.0.0.0) o.front = record { later = []; is = o.first.0.0.1 ∙ sym (append-nil (bits_of_number 8 v.0.0.0)) } in
-    (more _ p.front p.back b p.joined (more _ l.front l.back p.front l.joined (more _ o.front o.back l.front o.joined start)), o.first.0.0.0, o.first.0.1, o.first.1)
+    let four = version_four v.0.0.0 o.first.0.1 in
+    let first = some_number 8 v.0.0.0 o.first.0.0.0 (omega (arith, four)) in
+    some-front p.front p.back p.joined (some-front l.front l.back l.joined (some-front o.front o.back o.joined (subst (λ x. 0 < number_of_bits x) (sym o.first.0.0.1) first)))

@@ -1,11 +1,9 @@
 -- The header of an IPv4 packet meets the conditions of its rules.
-use Rattle.std.proofs.Common.{◌≡◌, ℕ, zero, suc, ◌+◌, ◌*◌, ◌/◌, ◌%◌, ◌^◌, ◌<◌, ◌≤◌, Bool, List, [], ◌∷◌, length, take, IsTrue, nat_lt, refl, sym, ap, ◌∙◌, subst, arith, lit≤, length-append}
+use Rattle.std.proofs.Common.{◌≡◌, ℕ, ◌+◌, ◌*◌, ◌/◌, ◌%◌, ◌^◌, ◌<◌, ◌≤◌, Bool, List, [], length, IsTrue, nat_lt, refl, sym, ap, ◌∙◌, subst, arith, lit≤, length-append}
 use Rattle.std.proofs.Math.Nat.{mod-eq_of_lt}
-use Rattle.std.proofs.lemmas.Bool.{ltb-false, eqb-true, not-true}
-use Rattle.std.proofs.lemmas.List.{take_at}
-use Rattle.narc_bits.specs.Bits.{bits_of_number, number_of_bits, octets_of_bits}
-use Rattle.narc_bits.specs.InternetSum.{total as sum_of_octets}
-use Rattle.narc_bits.proofs.Numbers.{length-bits, length-bits_of_number, number_of_bits-bits_of_number_lt}
+use Rattle.std.proofs.lemmas.Bool.{ltb-false, not-true}
+use Rattle.narc_bits.specs.Bits.{number_of_bits}
+use Rattle.narc_bits.proofs.Numbers.{length-bits}
 use Rattle.narc_format.specs.Holes.{IsHoled}
 use Rattle.narc_scalar.specs.Octets.{fixed_octets}
 use Rattle.narc_compose.specs.Gap.{gapped}
@@ -19,13 +17,11 @@ use Rattle.narc_list.specs.Until.{until}
 use Rattle.narc_sum.specs.Checked.{checked}
 use Rattle.narc_options.proofs.AreaSound.{region_sound}
 use Rattle.narc_ipv4.specs.Laws.{ip_before_laws}
-use Rattle.narc_ipv4.specs.Header.{is_version, is_header_length, header_length_of, area_length_of, RawBefore, RawHeader, HeaderView, header_view, SameHeader, header_of, raw_header, ip_before, ip_area, ip_behind, ip_fields, ip_summed, ip_head}
+use Rattle.narc_ipv4.specs.Header.{is_header_length, header_length_of, area_length_of, RawBefore, RawHeader, HeaderView, header_view, SameHeader, header_of, raw_header, ip_before, ip_area, ip_behind, ip_fields, ip_summed, ip_head}
 use Rattle.narc_layout.proofs.Sizes.{pair_eq}
-use Rattle.narc_ipv4.proofs.BeforeSound.{front_sound, front_alike, IsFrontInRange, front_ranges, front_size, front_wide, Starts, more, front_starts}
+use Rattle.narc_ipv4.proofs.BeforeSound.{front_sound, front_alike, IsFrontInRange, front_ranges, front_size, front_wide, front_tests, front_some, version_four}
+use Rattle.narc_sum.proofs.SomeSums.{some-front, checked_is_sound}
 use Rattle.narc_ipv4.proofs.FragmentWord.{fragment_back}
-
-version_four : (first : ℕ) → IsTrue (is_version tt first) → first / 16 ≡ 4
-version_four first h = eqb-true (first / 16) 4 h
 
 pub length_five : (first : ℕ) → IsTrue (is_header_length tt first) → 5 ≤ first % 16
 length_five first h = ltb-false (first % 16) 5 (not-true (nat_lt (first % 16) 5) h)
@@ -71,8 +67,7 @@ fields_size c v b p =
     let g = p.first in
     let d = p.second in
     let a = d.first in
-    let start = front_starts c v.0 g.front g.stood in
-    let least = length_five v.0.0.0.0 start.3 in (
+    let least = length_five v.0.0.0.0 (front_tests c v.0 g.front g.stood).1 in (
       omega (
         arith,
         least,
@@ -97,43 +92,16 @@ fields_size c v b p =
       least,
     )
 
-first_some : (o : ℕ) (l : List ℕ) → 0 < o → 0 < sum_of_octets (o ∷ l)
-unfolding sum_of_octets
-first_some o [] h = omega (arith, h)
-first_some o (p ∷ l) h = omega (arith, h)
-
--- octets of which the first is not 0 have a sum
-starts_some : (n first : ℕ) (b : List Bool) → 1 ≤ n → first < 2 ^ 8 → 0 < first → Starts (bits_of_number 8 first) b → 0 < sum_of_octets (octets_of_bits n b)
-unfolding octets_of_bits
-starts_some zero first b h small some s = absurd (none h) where
-  none : 1 ≤ 0 → ⊥
-  none h = omega (arith, h)
-starts_some (suc n) first b h small some s =
-    let octet : number_of_bits (take 8 b) ≡ first = ap (λ l. number_of_bits (take 8 l)) s.is ∙ ap number_of_bits (take_at (bits_of_number 8 first) s.later 8 (length-bits_of_number 8 first)) ∙ number_of_bits-bits_of_number_lt 8 first small in
-    first_some _ _ (omega (arith, octet, some))
-
-fields_some : (c : ℕ) (v : RawHeader) (b : List Bool) → ip_fields.stands c v b → 0 < sum_of_octets (octets_of_bits (length b / 8) b)
+fields_some : (c : ℕ) (v : RawHeader) (b : List Bool) → ip_fields.stands c v b → 0 < number_of_bits b
 unfolding seq gapped
-fields_some c v b p =
-    let g = p.first in
-    let start = front_starts c v.0 g.front g.stood in
-    let size = (fields_size c v b p).0 in
-    let least = (fields_size c v b p).1 in
-    let four = version_four v.0.0.0.0 start.2 in
-    starts_some (length b / 8) v.0.0.0.0 b (omega (arith, size, least)) start.1 (omega (arith, four)) (more _ p.front p.back b p.joined (more _ g.front g.word p.front g.joined start.0))
+fields_some c v b p = let g = p.first in some-front p.front p.back p.joined (some-front g.front g.word g.joined (front_some c v.0 g.front g.stood))
 
 pub summed_sound : ip_summed.sound
 unfolding named checked seq gapped fixed_octets region
 summed_sound = record {
-  part_sound = record {
-    part_sound = fields_sound;
-    holed = fields_holed;
-    whole = refl;
-    aligned = refl;
-    even = refl;
-    some = λ c ok v b p. let sum = fields_some c v b p in omega (arith, sum);
-    short = λ c ok v b p. let size = (fields_size c v b p).0 in omega (arith, size);
-  };
+  part_sound =
+      checked_is_sound (λ c n. []) 10 ip_fields fields_sound fields_holed refl refl refl (λ c ok v b p. let size = (fields_size c v b p).0 in (omega (arith, size), omega (arith, size)))
+      (λ c ok. fields_some c);
   some = lit≤ tt;
   known = lit≤ tt;
 }
