@@ -8,7 +8,8 @@ use narc_format::{Fault, read_front};
 use narc_list::{Bytes, Pad, Region, Until};
 use narc_options::{
     AnyOctets, ByKind, ContextOctets, DataOf, IsKind, IsOptionLength, KindOf, OptionArea,
-    OptionAreaPart, OptionFields, OptionRegion, RawOption,
+    OptionAreaPart, OptionFields, OptionRegion, RawOption, option_fields_are_sound,
+    option_region_is_sound,
 };
 use narc_samples::are_one;
 use narc_scalar::{Where, Word};
@@ -18,6 +19,7 @@ use std::marker::PhantomData;
 fn read_option<'a>(octets: &'a [u8]) -> Result<RawOption<'a>, Fault>
     requires { length octets.now ≤ MAX_FRAME }
 {
+    option_fields_are_sound();
     Ok(read_front::<OptionFields>((), octets)?.value)
 }
 
@@ -25,6 +27,7 @@ fn read_option<'a>(octets: &'a [u8]) -> Result<RawOption<'a>, Fault>
 fn read_area<'a>(count: usize, octets: &'a [u8]) -> Result<&'a [u8], Fault>
     requires { length octets.now ≤ MAX_FRAME }
 {
+    option_region_is_sound();
     Ok(read_front::<OptionRegion>(count, octets)?.value)
 }
 

@@ -23,10 +23,10 @@ unfolding region until
 written_size v e = omega (arith, ap length e, length-filled 40 (λ (c : ℕ). c) (λ c. c < 2 ^ 64) option_fields 8 v.now)
 
 pub write-requires-clause-sound : goal.write-requires-clause-sound
-write-requires-clause-sound c = region_sound
+write-requires-clause-sound g c = region_sound
 
 pub write-requires-clause-admitted : goal.write-requires-clause-admitted
-write-requires-clause-admitted c = admitted _ refl
+write-requires-clause-admitted g c = admitted _ refl
 
 pub write-requires-clause-enough : goal.write-requires-clause-enough
-write-requires-clause-enough c = written_size _ refl
+write-requires-clause-enough g c = written_size _ refl
