@@ -5,7 +5,7 @@ ghost use Rattle.narc_stack.specs.Ipv4.{words_of, protocol_of, octets_of, raw_co
 use crate::content::RawContent;
 use narc_compose::{Choose, Either};
 use narc_ipv4::IpHeader;
-use narc_packet::{IpBody, Ipv4};
+use narc_packet::{IpBody, Ipv4, TCP_PROTOCOL, UDP_PROTOCOL};
 use narc_transport::TcpWithOffset;
 
 type RawIpv4<'a> = (IpHeader<'a>, (RawContent<'a>, ()));
@@ -31,7 +31,10 @@ fn written_content<'a>(body: &IpBody<'a>) -> (u8, u16, RawContent<'a>)
     ensures { result ≡ (protocol_of body.now, octets_of body.now % 65536, raw_content body.now) }
 {
     match body {
-        IpBody::Udp(udp) => (17, sum_of(8, udp.payload.len()), Either::Left(*udp)),
+        IpBody::Udp(udp) => {
+            let octets = sum_of(8, udp.payload.len());
+            (UDP_PROTOCOL, octets, Either::Left(*udp))
+        }
         IpBody::Tcp(tcp) => {
             let offset = 5 + words(tcp.options.spelled.len());
             let segment = TcpWithOffset {
@@ -39,7 +42,7 @@ fn written_content<'a>(body: &IpBody<'a>) -> (u8, u16, RawContent<'a>)
                 tcp: *tcp,
             };
             let octets = sum_of(4 * offset, tcp.payload.len());
-            (6, octets, Either::Right(Either::Left(segment)))
+            (TCP_PROTOCOL, octets, Either::Right(Either::Left(segment)))
         }
         IpBody::Raw { protocol, payload } => {
             let octets = sum_of(0, payload.len());

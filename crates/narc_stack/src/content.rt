@@ -4,7 +4,7 @@ ghost use Rattle.narc_stack.specs.Content.{by_udp, by_tcp, IsContentContext};
 
 use narc_compose::{Either, Parted, Pick, Union};
 use narc_list::{Bytes, Count};
-use narc_packet::Udp;
+use narc_packet::{TCP_PROTOCOL, UDP_PROTOCOL, Udp};
 use narc_transport::{Ends, TcpPart, TcpWithOffset, UdpPart};
 
 /// What the data of an IPv4 packet is read with.
@@ -23,7 +23,7 @@ pub type IpContent = Union<ByUdp, Parted<UdpPart>, Union<ByTcp, Parted<TcpPart>,
 
 pub(crate) type RawContent<'a> = Either<Udp<'a>, Either<TcpWithOffset<'a>, &'a [u8]>>;
 
-/// A UDP datagram, where the packet has the protocol 17 and is no fragment.
+/// A UDP datagram, where the packet has its protocol and is no fragment.
 pub struct ByUdp;
 
 impl Pick<(Ends, usize), ContentContext> for ByUdp {
@@ -34,7 +34,7 @@ impl Pick<(Ends, usize), ContentContext> for ByUdp {
     ghost valid = { IsContentContext };
 
     fn pick(ctx: ContentContext) -> Either<(Ends, usize), ContentContext> {
-        if ctx.protocol == 17 && !ctx.fragment {
+        if ctx.protocol == UDP_PROTOCOL && !ctx.fragment {
             Either::Left((ctx.ends, ctx.octets))
         } else {
             Either::Right(ctx)
@@ -42,7 +42,7 @@ impl Pick<(Ends, usize), ContentContext> for ByUdp {
     }
 }
 
-/// A TCP segment, where the packet has the protocol 6 and is no fragment.
+/// A TCP segment, where the packet has its protocol and is no fragment.
 pub struct ByTcp;
 
 impl Pick<(Ends, usize), ()> for ByTcp {
@@ -53,7 +53,7 @@ impl Pick<(Ends, usize), ()> for ByTcp {
     ghost valid = { IsContentContext };
 
     fn pick(ctx: ContentContext) -> Either<(Ends, usize), ()> {
-        if ctx.protocol == 6 && !ctx.fragment {
+        if ctx.protocol == TCP_PROTOCOL && !ctx.fragment {
             Either::Left((ctx.ends, ctx.octets))
         } else {
             Either::Right(())

@@ -21,13 +21,13 @@ use narc_compose::{Carry, Either, Parted, PartedFormat, Pick, SeqTail, Strip, Un
 use narc_eth::{ArpPart, EthHead};
 use narc_format::Tail;
 use narc_list::{Bytes, Pad};
-use narc_packet::Arp;
+use narc_packet::{ARP_TYPE, Arp, IPV4_TYPE};
 
-/// The Ethernet type of ARP (RFC 826).
-pub(crate) const ARP: u64 = 0x0806;
+/// The Ethernet type of ARP, as the header has it.
+pub(crate) const ARP: u64 = ARP_TYPE as u64;
 
-/// The Ethernet type of IPv4 (RFC 894).
-pub(crate) const IPV4: u64 = 0x0800;
+/// The Ethernet type of IPv4, as the header has it.
+pub(crate) const IPV4: u64 = IPV4_TYPE as u64;
 
 /// An ARP packet, and any padding behind it.
 type PaddedArp = SeqTail<PartedFormat<ArpPart>, Pad, ShortestFrame>;

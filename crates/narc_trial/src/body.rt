@@ -7,7 +7,7 @@ ghost use Rattle.narc_packet.specs.WellFormed.{SpellsIpBody, SpellsIpv4, SpellsE
 ghost use Rattle.narc_trial.specs.Made.{payload_of, dst_mac, src_mac, src_ip, dst_ip, segment_size_octets, arp, udp, tcp, ipv4, eth_body};
 
 use crate::options::{ip_options, tcp_options};
-use narc_packet::{Arp, EthBody, IpBody, Ipv4, Tcp, Udp};
+use narc_packet::{Arp, EthBody, IpBody, Ipv4, Tcp, UDP_PROTOCOL, Udp};
 
 /// The network 10.0.0.0/8, and how many addresses it has.
 const NETWORK: u32 = 0x0a00_0000;
@@ -16,9 +16,6 @@ const ADDRESSES: u32 = 0x0100_0000;
 
 /// A type of local experiments.
 const EXPERIMENT: u16 = 34_997;
-
-/// The protocol of UDP.
-const UDP: u8 = 17;
 
 /// The lowest 16 bits.
 fn low(number: u32) -> u16
@@ -138,7 +135,7 @@ pub(crate) fn eth_body<'r>(number: u32, options: &'r [u8], payload: &'r [u8]) ->
             true,
             (number % 8192) as u16,
             IpBody::Raw {
-                protocol: UDP,
+                protocol: UDP_PROTOCOL,
                 payload,
             },
         )),

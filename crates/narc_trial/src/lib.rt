@@ -12,6 +12,3 @@ pub use counts::TrialCounts;
 pub use fate::Fate;
 pub use make::{MADE_OCTETS, made};
 pub use trial::try_packets;
-
-#[cfg(test)]
-mod tests;

@@ -23,7 +23,7 @@ struct Attempt {
 }
 
 /// Changes the lowest bit of one octet, whose place goes by the packet's number.
-pub(crate) fn change_bit(octets: &mut [u8], number: u32)
+fn change_bit(octets: &mut [u8], number: u32)
     requires { 0 < length octets.old }
     ensures { octets.new ≡ with_bit_changed (hurt_place number (length octets.old)) octets.old }
 {

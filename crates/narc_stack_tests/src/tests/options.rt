@@ -83,14 +83,17 @@ fn options_of(frame: &[u8]) -> Option<TcpOptions<'_>>
     requires { length frame.now ≤ MAX_FRAME }
 {
     match decode(frame) {
-        Ok(Packet {
-            body:
-                EthBody::Ip(Ipv4 {
-                    body: IpBody::Tcp(tcp),
-                    ..
-                }),
-            ..
-        }) => Some(tcp.options),
+        Ok(
+            Packet {
+                body: EthBody::Ip(
+                    Ipv4 {
+                        body: IpBody::Tcp(tcp),
+                        ..
+                    },
+                ),
+                ..
+            },
+        ) => Some(tcp.options),
         _ => None,
     }
 }

@@ -41,10 +41,11 @@ fn expect_frame(rt: &impl Abort, frame: &mut [u8], number: u32, size: usize, pla
     let mut store = [0; MADE_OCTETS];
     let mut written = [0; 60];
     assert_eq!(rt; encode(&made(number, &mut store), &mut written), Some(size));
-    frame[..60].fill(0);
     assert_eq!(rt; counts_of(number, 1, frame, &mut store).octets, size as u64);
     for (at, octet) in written.iter().enumerate() {
-        assert_eq!(rt; *octet ^ frame[at], u8::from(at == place));
+        if at < size {
+            assert_eq!(rt; *octet ^ frame[at], u8::from(at == place));
+        }
     }
 }
 

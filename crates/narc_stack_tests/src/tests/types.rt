@@ -5,8 +5,9 @@ use narc_ipv4::IpHeadPart;
 use narc_list::{Bytes, Pad, Region};
 use narc_samples::are_one;
 use narc_stack::{
-    AsIpv4, AsPacket, ByIpv4, ByTcp, ByType, ByUdp, ContentOctets, ContentOf, Frame, IpContent,
-    Ipv4Format, Ipv4Part, Ipv4PartTail, OctetsThere, ShortestFrame, TypeOfHeader, ZerosBehind,
+    AsIpv4, AsPacket, ByIpv4, ByTcp, ByType, ByUdp, ContentOctets, ContentOf, Frame, FramePartTail,
+    IpContent, Ipv4Format, Ipv4Part, Ipv4PartTail, OctetsThere, ShortestFrame, TypeOfHeader,
+    ZerosBehind,
 };
 use narc_transport::{TcpPart, UdpPart};
 use std::marker::PhantomData;
@@ -63,4 +64,9 @@ fn data_is_a_datagram_or_a_segment_or_unread(_rt: HostRuntime) {
 #[test]
 fn a_part_hands_on_to_ipv4_packets(_rt: HostRuntime) {
     are_one(PhantomData::<Ipv4PartTail>, PhantomData::<Ipv4Format>);
+}
+
+#[test]
+fn a_part_hands_on_to_whole_frames(_rt: HostRuntime) {
+    are_one(PhantomData::<FramePartTail>, PhantomData::<Frame>);
 }
