@@ -89,6 +89,27 @@ fn a_sink_with_too_little_room_has_a_front_of_the_counts(rt: HostRuntime) -> Res
     Ok(())
 }
 
+#[test]
+fn the_counts_are_written_by_one_push_at_the_end(rt: HostRuntime) -> Result<(), Fail> {
+    // The first push fails half way through the counts, and there is no second one to fail.
+    let half = &COUNTS[..COUNTS.len() / 2];
+    for (push, status, written) in [(1, 6, half), (2, 1, COUNTS)] {
+        let world = World {
+            pieces: &[1; 134],
+            failing_pushes: &[push],
+            ..World::of(&CAPTURE)
+        };
+        expect_end(
+            &rt,
+            &end_of(rt.alloc(), &["check"], world)?,
+            status,
+            0,
+            written,
+        );
+    }
+    Ok(())
+}
+
 /// A capture of 64 records with 262,128 octets 0 each.
 fn long_capture(alloc: Global) -> Result<Vec<u8>, AllocError> {
     let frame = zeros(alloc, 262_128)?;

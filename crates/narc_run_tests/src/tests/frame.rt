@@ -3,10 +3,29 @@ use crate::tests::{ARP_LINE, OTHER_LINE, World, end_of, expect_end, zeros};
 use narc_samples::{ARP_REQUEST, DATAGRAM, UNREAD_TYPE};
 use std::test::Fail;
 
+const DATAGRAM_LINE: &[u8] =
+    b"ok eth 0200000000aa 0200000000bb ip4 0 0 .. 0 64 10.0.0.1 10.0.0.2 - udp 1 2 -\n";
+
+/// A frame is told whole, its padding plays no part, and one that is cut off or wrong is refused at its first field.
 #[test]
-fn a_frame_of_an_unread_type_is_told_whole(rt: HostRuntime) -> Result<(), Fail> {
-    let told = end_of(rt.alloc(), &["frame"], World::of(&UNREAD_TYPE))?;
-    expect_end(&rt, &told, 0, 0, OTHER_LINE);
+fn a_frame_is_told_or_refused_at_its_first_field(rt: HostRuntime) -> Result<(), Fail> {
+    let mut hardware = ARP_REQUEST;
+    hardware[15] = 6;
+    let cases: [(&[u8], u8, &[u8]); 9] = [
+        (&UNREAD_TYPE, 0, OTHER_LINE),
+        (&[], 1, b"refused ethernet.destination 0\n"),
+        (&UNREAD_TYPE[..13], 1, b"refused ethernet.type 12\n"),
+        (&ARP_REQUEST, 0, ARP_LINE),
+        (&ARP_REQUEST[..42], 0, ARP_LINE),
+        (&hardware, 1, b"refused arp.hardware 14\n"),
+        (&ARP_REQUEST[..21], 1, b"refused arp.operation 20\n"),
+        (&DATAGRAM, 0, DATAGRAM_LINE),
+        (&DATAGRAM[..15], 1, b"refused ipv4.tos 15\n"),
+    ];
+    for (frame, status, line) in cases {
+        let told = end_of(rt.alloc(), &["frame"], World::of(frame))?;
+        expect_end(&rt, &told, status, 0, line);
+    }
     Ok(())
 }
 
@@ -19,15 +38,6 @@ fn the_size_of_the_pieces_plays_no_part(rt: HostRuntime) -> Result<(), Fail> {
     };
     let told = end_of(rt.alloc(), &["frame"], world)?;
     expect_end(&rt, &told, 0, 0, OTHER_LINE);
-    Ok(())
-}
-
-#[test]
-fn the_first_field_that_is_cut_off_is_refused(rt: HostRuntime) -> Result<(), Fail> {
-    let nothing = end_of(rt.alloc(), &["frame"], World::of(b""))?;
-    expect_end(&rt, &nothing, 1, 0, b"refused ethernet.destination 0\n");
-    let thirteen = end_of(rt.alloc(), &["frame"], World::of(&UNREAD_TYPE[..13]))?;
-    expect_end(&rt, &thirteen, 1, 0, b"refused ethernet.type 12\n");
     Ok(())
 }
 
@@ -76,35 +86,5 @@ fn a_failing_push_leaves_a_front_of_the_line(rt: HostRuntime) -> Result<(), Fail
     assert_eq!(rt; told.outcome.status, 6);
     assert_eq!(rt; told.outcome.at, 0);
     assert!(rt; OTHER_LINE.starts_with(told.written.bytes()));
-    Ok(())
-}
-
-#[test]
-fn the_padding_of_an_arp_packet_plays_no_part(rt: HostRuntime) -> Result<(), Fail> {
-    let padded = end_of(rt.alloc(), &["frame"], World::of(&ARP_REQUEST))?;
-    expect_end(&rt, &padded, 0, 0, ARP_LINE);
-    let bare = end_of(rt.alloc(), &["frame"], World::of(&ARP_REQUEST[..42]))?;
-    expect_end(&rt, &bare, 0, 0, ARP_LINE);
-    Ok(())
-}
-
-#[test]
-fn an_arp_packet_is_refused_at_its_first_wrong_field(rt: HostRuntime) -> Result<(), Fail> {
-    let mut frame = ARP_REQUEST;
-    frame[15] = 6;
-    let hardware = end_of(rt.alloc(), &["frame"], World::of(&frame))?;
-    expect_end(&rt, &hardware, 1, 0, b"refused arp.hardware 14\n");
-    let operation = end_of(rt.alloc(), &["frame"], World::of(&ARP_REQUEST[..21]))?;
-    expect_end(&rt, &operation, 1, 0, b"refused arp.operation 20\n");
-    Ok(())
-}
-
-#[test]
-fn a_datagram_is_told_and_a_cut_one_refused(rt: HostRuntime) -> Result<(), Fail> {
-    let told = end_of(rt.alloc(), &["frame"], World::of(&DATAGRAM))?;
-    let line = b"ok eth 0200000000aa 0200000000bb ip4 0 0 .. 0 64 10.0.0.1 10.0.0.2 - udp 1 2 -\n";
-    expect_end(&rt, &told, 0, 0, line);
-    let told = end_of(rt.alloc(), &["frame"], World::of(&DATAGRAM[..15]))?;
-    expect_end(&rt, &told, 1, 0, b"refused ipv4.tos 15\n");
     Ok(())
 }

@@ -94,6 +94,49 @@ fn what_is_no_capture_or_no_record_is_bad_at_its_place(rt: HostRuntime) -> Resul
 }
 
 #[test]
+fn behind_a_bad_place_nothing_is_pulled(rt: HostRuntime) -> Result<(), Fail> {
+    let mut octets = CAPTURE;
+    octets[33] = 4;
+    octets[35] = 1;
+    let cases: [(&[u8], usize, u64, &[u8]); 2] = [
+        (&[0; 134], 24, 0, b"bad 0\n"),
+        (&octets, 40, 32, b"capture us 65535\nbad 32\n"),
+    ];
+    for (octets, first, at, written) in cases {
+        // The second pull would fail.
+        let world = World {
+            pieces: &[first],
+            failing_pulls: &[2],
+            ..World::of(octets)
+        };
+        expect_end(&rt, &end_of(rt.alloc(), &["show"], world)?, 3, at, written);
+    }
+    Ok(())
+}
+
+/// How many octets all lines but the last have.
+const FOUR_LINES: usize = 169;
+
+#[test]
+fn lines_are_written_before_a_pull_that_may_wait(rt: HostRuntime) -> Result<(), Fail> {
+    // The first pull gives the header and the first record, the second the other records, and the third finds the end.
+    for (push, start, end) in [
+        (1, 0, TWO_LINES),
+        (2, TWO_LINES, FOUR_LINES),
+        (3, FOUR_LINES, LINES.len()),
+    ] {
+        let world = World {
+            pieces: &[82],
+            failing_pushes: &[push],
+            ..World::of(&CAPTURE)
+        };
+        let told = end_of(rt.alloc(), &["show"], world)?;
+        expect_end(&rt, &told, 6, 0, &LINES[..start + (end - start) / 2]);
+    }
+    Ok(())
+}
+
+#[test]
 fn each_pull_that_fails_leaves_the_lines_so_far(rt: HostRuntime) -> Result<(), Fail> {
     for pull in 1..136 {
         let world = World {
