@@ -11,13 +11,13 @@ use Rattle.narc_pcap.specs.declared.record.End.TheVariants.{Clean, Torn, Bad}
 use Rattle.narc_pcap.specs.Capture.{CaptureView, capture, is_bad}
 use Rattle.narc_pcap.proofs.Cuts.{capture-decided}
 use Rattle.narc_run.specs.declared.outcome.Outcome.{Outcome}
-use Rattle.narc_run.specs.Job.{Job, CaptureJob, Capture, Show, Check, job}
+use Rattle.narc_run.specs.Job.{CaptureJob, Capture, Show, Check, job}
 use Rattle.narc_run.specs.Findings.{Findings, Found, FoundSoFar, Told, AreTold, frames, frame_cost}
 use Rattle.narc_run.specs.Output.{body, output, is_refused}
 use Rattle.narc_run.specs.Verdict.{Verdict, verdict, verdict_of, end_verdict, records_status, is_decided}
 use Rattle.narc_run.specs.Run.{Run, WhereTold, IsRightRun, IsRightWriting, OnUnread, AreCounted, input_limit, WroteFront}
 use Rattle.narc_run.specs.CaptureRun.{Judges, Breaks, Overruns, Stops, StopsLast, StopsBehind, CaptureRun, Judged, Broken, Overrun, Stopped, StoppedLast, StoppedBehind, EndsCapture, IsOutcome}
-use Rattle.narc_run.specs.RightJob.{IsRight, IsRightFor}
+use Rattle.narc_run.specs.RightJob.{IsRightFor}
 use Rattle.narc_run.proofs.Jobs.{for_job, some, where_none, not_none, run_of, taken_is}
 
 -- a bad place decides the capture of all that follows

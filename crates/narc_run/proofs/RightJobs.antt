@@ -8,7 +8,7 @@ use Rattle.narc_run.specs.Output.{usage_line}
 use Rattle.narc_run.specs.Run.{IsRightRun, IsRightWriting, WhereTold, WroteFront, IsUnreadRun, OnUnread, IsWithin}
 use Rattle.narc_run.specs.UnreadRun.{UsageRun}
 use Rattle.narc_run.specs.RightJob.{IsRight, IsRightFor}
-use Rattle.narc_run.proofs.Jobs.{for_job, some, where_none, not_none, run_of, taken_is, Appends-same}
+use Rattle.narc_run.proofs.Jobs.{for_job, some, not_none, run_of, taken_is, Appends-same}
 
 -- no octets are within any limit
 within_any : (more : ℕ) (j : Job) (t : List ℕ) → t ≡ [] → IsWithin more j t

@@ -9,14 +9,14 @@ use Rattle.narc_trial.specs.Hurt.{hurt}
 use Rattle.narc_trial.specs.Trying.{numbers}
 use Rattle.narc_trial.specs.Counting.{IsTrial}
 use Rattle.narc_run.specs.declared.outcome.Outcome.{Outcome}
-use Rattle.narc_run.specs.Job.{Job, UnreadJob, Unread, Trial, Version, job}
+use Rattle.narc_run.specs.Job.{UnreadJob, Unread, Trial, Version, job}
 use Rattle.narc_run.specs.Findings.{Found, frames, frame_cost}
 use Rattle.narc_run.specs.Output.{output, trial_line, version_line}
-use Rattle.narc_run.specs.Run.{Run, Reads, WhereTold, IsRightRun, IsRightWriting, IsUnreadRun, OnUnread, WroteFront}
-use Rattle.narc_run.specs.UnreadRun.{UnreadRun, Lacks, IsToldOrCut}
+use Rattle.narc_run.specs.Run.{Reads, WhereTold, IsRightRun, IsRightWriting, IsUnreadRun, OnUnread, WroteFront}
+use Rattle.narc_run.specs.UnreadRun.{UnreadRun, IsToldOrCut}
 use Rattle.narc_run.specs.RightJob.{IsRight, IsRightFor}
 use Rattle.narc_run.proofs.FrameAnswers.{no_findings}
-use Rattle.narc_run.proofs.Jobs.{for_job, some, where_none, not_none, run_of, taken_is}
+use Rattle.narc_run.proofs.Jobs.{for_job, where_none, not_none, run_of, taken_is}
 use Rattle.narc_run.proofs.RightJobs.{without_memory}
 
 -- a job that reads nothing wrote its line, or a front of it

@@ -1,7 +1,7 @@
 -- How the job `frame` ends for a source and a sink.
 use Rattle.std.specs.Prelude.{◌≡◌, ℕ, ◌+◌, ◌*◌, ◌≤◌, ◌⊎◌, List, length, Option}
 use Rattle.narc_bits.specs.declared.limits.TheConstants.{MAX_FRAME}
-use Rattle.narc_world.specs.declared.room.TheConstants.{FRAME_BUFFER}
+use Rattle.narc_world.specs.declared.buffers.TheConstants.{FRAME_BUFFER}
 use Rattle.narc_world.specs.Outside.{TakesFront, IsEmptyWhereTold, Appends}
 use Rattle.narc_run.specs.Job.{Frame}
 use Rattle.narc_run.specs.Findings.{Found}

@@ -11,7 +11,6 @@ ghost use Rattle.narc_run.specs.Job.{Frame};
 ghost use Rattle.narc_run.specs.RightJob.{IsRightFor};
 ghost use Rattle.narc_run.specs.Run.{AreCounted};
 
-use crate::buffer::zeros;
 use crate::input::{Filled, fill};
 use crate::outcome::Outcome;
 use crate::steps::RunSteps;
@@ -19,7 +18,7 @@ use narc_bits::MAX_FRAME;
 use narc_packet::{Packet, field};
 use narc_stack::{Refusal, decode_frame};
 use narc_text::{Page, print_packet, put_decimal};
-use narc_world::{FRAME_BUFFER, Failed, Sink, Source};
+use narc_world::{FRAME_BUFFER, Failed, Sink, Source, zeros};
 use std::alloc::Global;
 use std::sync::ledger::Ledger;
 

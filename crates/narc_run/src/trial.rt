@@ -5,12 +5,11 @@ ghost use Rattle.narc_run.specs.Job.{Trial};
 ghost use Rattle.narc_run.specs.Output.{trial_line};
 ghost use Rattle.narc_run.specs.UnreadRun.{UnreadRun};
 
-use crate::buffer::zeros;
 use crate::outcome::Outcome;
 use crate::steps::RunSteps;
 use narc_text::{PAGE_SIZE, Page, put_decimal};
 use narc_trial::{TrialCounts, try_packets};
-use narc_world::{FRAME_BUFFER, Failed, STORE_BUFFER, Sink};
+use narc_world::{FRAME_BUFFER, Failed, STORE_BUFFER, Sink, zeros};
 use std::alloc::Global;
 use std::sync::ledger::Ledger;
 

@@ -8,13 +8,12 @@ ghost use Rattle.narc_run.specs.Job.{Capture};
 ghost use Rattle.narc_run.specs.RightJob.{IsRightFor};
 ghost use Rattle.narc_run.specs.Run.{AreCounted};
 
-use crate::buffer::zeros;
 use crate::outcome::Outcome;
 use crate::steps::RunSteps;
 use crate::visitor::Visitor;
 use narc_pcap::{End, LONGEST_RECORD, Next, Reader, Started};
 use narc_text::Page;
-use narc_world::{Failed, INPUT_BUFFER, Sink, Source};
+use narc_world::{Failed, INPUT_BUFFER, Sink, Source, zeros};
 use std::alloc::Global;
 use std::sync::ledger::Ledger;
 

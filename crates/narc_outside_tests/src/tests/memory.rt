@@ -1,5 +1,5 @@
 //! Sources and sinks in memory, the words, and the room.
-use narc_world::{MemorySink, MemorySource, Pulled, Room, Sink, Source, Words};
+use narc_world::{FRAME_BUFFER, MemorySink, MemorySource, Pulled, Sink, Source, Words, zeros};
 use std::test::Fail;
 
 #[test]
@@ -85,11 +85,9 @@ fn words_keep_their_order(rt: HostRuntime) -> Result<(), Fail> {
 }
 
 #[test]
-fn a_room_has_the_input_and_one_octet_more_than_a_frame(rt: HostRuntime) -> Result<(), Fail> {
-    let room = Room::new(rt.alloc())?;
-    assert_eq!(rt; room.input.len(), 327_680);
-    assert_eq!(rt; room.frame.len(), 262_144 + 1);
-    assert_eq!(rt; room.store.len(), 262_144);
-    assert!(rt; room.frame.iter().all(|octet| *octet == 0));
+fn a_buffer_has_so_many_zeros(rt: HostRuntime) -> Result<(), Fail> {
+    let frame = zeros(rt.alloc(), FRAME_BUFFER)?;
+    assert_eq!(rt; frame.len(), 262_144 + 1);
+    assert!(rt; frame.iter().all(|octet| *octet == 0));
     Ok(())
 }
