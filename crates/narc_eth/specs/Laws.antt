@@ -2,7 +2,6 @@
 use Rattle.std.specs.Prelude.{◌≡◌}
 use Rattle.narc_packet.specs.declared.field.TheConstants as field
 use Rattle.narc_format.specs.Laws.{Laws}
-use Rattle.narc_format.specs.Meaning.{Meaning}
 use Rattle.narc_scalar.specs.Constant.{constant}
 use Rattle.narc_scalar.specs.ConstantLaws.{constant_laws}
 use Rattle.narc_scalar.specs.Octets.{fixed_octets}
@@ -14,7 +13,6 @@ use Rattle.narc_compose.specs.BothLaws.{both_laws}
 use Rattle.narc_compose.specs.Named.{named}
 use Rattle.narc_compose.specs.NamedLaws.{named_laws}
 use Rattle.narc_compose.specs.StripLaws.{stripped_laws}
-use Rattle.narc_packet.specs.declared.packet.Arp.{Arp}
 use Rattle.narc_packet.specs.Frame.{ipv4_type}
 use Rattle.narc_eth.specs.ArpPacket.{arp_of, raw_arp, arp_kind, arp_addresses, arp_format}
 

@@ -16,7 +16,3 @@ later_by n f = fault_at f.field (f.at + n)
 -- a fault of no field in particular gets this field
 abbrev pub named_by : (field : ℕ) → Fault → Fault
 named_by field f = fault_at (if nat_eq f.field 0 then field else f.field) f.at
-
--- the same field, at the beginning
-abbrev pub at_start : Fault → Fault
-at_start f = fault_at f.field 0

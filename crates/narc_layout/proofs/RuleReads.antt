@@ -1,5 +1,5 @@
 -- Octets and rows of a gap, a region, a name and a sum. (General: beside the rules, or in a crate above them.)
-use Rattle.std.proofs.Common.{◌≡◌, ℕ, ◌+◌, ◌*◌, ◌-◌, ◌/◌, ◌≤◌, ◌↔◌, ◌⊎◌, Bool, true, false, not, List, [], ◌∷◌, ◌++◌, length, take, drop, ◌%◌, if◌then◌else◌, Some, None, IsTrue, refl, sym, ap, ◌∙◌, subst, arith, inl, inr, length-append, length-take, take-append-drop}
+use Rattle.std.proofs.Common.{◌≡◌, ℕ, ◌+◌, ◌*◌, ◌-◌, ◌/◌, ◌≤◌, ◌↔◌, ◌⊎◌, Bool, true, false, not, List, [], ◌∷◌, ◌++◌, length, take, drop, ◌%◌, Some, None, IsTrue, refl, sym, ap, ◌∙◌, subst, arith, inl, inr, length-append, length-take, take-append-drop}
 use Rattle.std.proofs.lemmas.List.{take_at}
 use Rattle.std.proofs.lemmas.Bool.{lt-ltb, le-ltb, ltb-true, ltb-false}
 use Rattle.narc_bits.specs.Octets.{IsOctets, is_shorter}

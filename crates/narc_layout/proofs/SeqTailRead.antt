@@ -1,5 +1,5 @@
 -- A format, and behind it a tail, by the octets that stand for their values.
-use Rattle.std.proofs.Common.{◌≡◌, ℕ, ◌+◌, ◌-◌, ◌↔◌, List, ◌++◌, drop, None, sym, ap, ◌∙◌, subst}
+use Rattle.std.proofs.Common.{◌≡◌, ℕ, ◌+◌, ◌↔◌, List, ◌++◌, drop, None, sym, ap, ◌∙◌, subst}
 use Rattle.narc_bits.specs.Octets.{IsOctets}
 use Rattle.narc_format.specs.Meaning.{Meaning}
 use Rattle.narc_compose.specs.Seq.{seq_tail}

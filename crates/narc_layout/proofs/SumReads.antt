@@ -12,7 +12,7 @@ use Rattle.narc_bits.proofs.Sums.{total-append}
 use Rattle.narc_format.specs.Faults.{fault_at}
 use Rattle.narc_format.specs.declared.fault.Fault.{Fault}
 use Rattle.narc_format.specs.Meaning.{Meaning}
-use Rattle.narc_format.specs.Rows.{Row, row, first_failing}
+use Rattle.narc_format.specs.Rows.{Row, row}
 use Rattle.narc_sum.specs.Checked.{checked_or_none, checked_tail}
 use Rattle.narc_layout.specs.FirstFault.{IsFirstFault}
 use Rattle.narc_bits.proofs.NetworkOrder.{number_of_lt, bits-number_of}
