@@ -6,7 +6,7 @@ use Rattle.narc_format.specs.Rows.{Row, row}
 use Rattle.narc_ipv4.specs.Header.{is_version, is_header_length, versioned, first_octet}
 use Rattle.narc_layout.proofs.ContextLayouts.{IsLayout}
 use Rattle.narc_layout.proofs.ReadLayout.{IsRead}
-use Rattle.narc_layout.proofs.ViewReads.{rename, named_read}
+use Rattle.narc_layout.proofs.NamedReads.{rename, named_read}
 use Rattle.narc_layout.proofs.FieldLayout.{named_layout}
 use Rattle.narc_layout.proofs.TestLayout.{shape_word, unnamed_word, shape_tested, unnamed_tested}
 use Rattle.narc_layout.proofs.TestRead.{tested_read}

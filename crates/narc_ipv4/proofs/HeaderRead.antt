@@ -19,8 +19,10 @@ use Rattle.narc_layout.proofs.FieldLayout.{IsUnnamed, unnamed_layout}
 use Rattle.narc_layout.proofs.TestLayout.{unnamed_word}
 use Rattle.narc_layout.proofs.ReadLayout.{Parts, IsRead, read_layout}
 use Rattle.narc_layout.proofs.SeqRead.{seq_read}
-use Rattle.narc_layout.proofs.RuleReads.{region_read, checked_read}
-use Rattle.narc_layout.proofs.ViewReads.{gap_read, rename, named_read, stripped_read}
+use Rattle.narc_layout.proofs.RegionReads.{region_read}
+use Rattle.narc_layout.proofs.RuleReads.{checked_read}
+use Rattle.narc_layout.proofs.NamedReads.{rename, named_read}
+use Rattle.narc_layout.proofs.ViewReads.{gap_read, stripped_read}
 use Rattle.narc_ipv4.proofs.BeforeRead.{IsBefore, before_rows, before_read}
 
 -- an address

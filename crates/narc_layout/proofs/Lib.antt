@@ -5,8 +5,10 @@ pub mod FieldLayout
 pub mod Fronts
 pub mod InOrder
 pub mod Layouts
+pub mod NamedReads
 pub mod PlainRead
 pub mod ReadLayout
+pub mod RegionReads
 pub mod RowSteps
 pub mod Rows
 pub mod RuleReads

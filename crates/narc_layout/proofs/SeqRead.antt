@@ -1,5 +1,5 @@
 -- A format, and behind it a second one, by the octets that stand for their values.
-use Rattle.std.proofs.Common.{◌≡◌, ℕ, ◌+◌, ◌-◌, ◌↔◌, List, ◌++◌, length, drop, None, refl, sym, ap, ◌∙◌, subst, append_assoc, arith, length-append}
+use Rattle.std.proofs.Common.{◌≡◌, ℕ, ◌+◌, ◌↔◌, List, ◌++◌, length, drop, None, refl, sym, ap, ◌∙◌, subst, append_assoc, arith, length-append}
 use Rattle.narc_bits.specs.Octets.{IsOctets}
 use Rattle.narc_format.specs.Meaning.{Meaning}
 use Rattle.narc_compose.specs.Seq.{seq}

@@ -9,7 +9,7 @@ use Rattle.narc_packet.specs.declared.limits.TheConstants.{MAX_LENGTH}
 use Rattle.narc_packet.specs.declared.packet.Ipv4.{Ipv4}
 use Rattle.narc_layout.proofs.ReadLayout.{Parts, Front, IsTailRead}
 use Rattle.narc_layout.proofs.SeqTailRead.{seq_tail_read}
-use Rattle.narc_layout.proofs.RuleReads.{region_read}
+use Rattle.narc_layout.proofs.RegionReads.{region_read}
 use Rattle.narc_layout.proofs.RowSteps.{rows_same, no_more_rows}
 use Rattle.narc_layout.proofs.SameRows.{row_passes}
 use Rattle.narc_layout.proofs.ViewReads.{measured_read, stripped_tail_read, padding_read}

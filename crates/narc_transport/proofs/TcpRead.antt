@@ -12,9 +12,10 @@ use Rattle.narc_layout.proofs.TestLayout.{shape_word, unnamed_word, shape_tested
 use Rattle.narc_layout.proofs.ReadLayout.{Parts, IsRead, IsTailRead, read_layout}
 use Rattle.narc_layout.proofs.SeqRead.{seq_read}
 use Rattle.narc_layout.proofs.SeqTailRead.{seq_tail_read}
-use Rattle.narc_layout.proofs.RuleReads.{region_read}
+use Rattle.narc_layout.proofs.RegionReads.{region_read}
 use Rattle.narc_layout.proofs.SumReads.{is_short_and_good, checked_tail_read}
-use Rattle.narc_layout.proofs.ViewReads.{gap_read, rename, named_read, named_tail_read, stripped_tail_read, all_octets_read}
+use Rattle.narc_layout.proofs.NamedReads.{rename, named_read, named_tail_read}
+use Rattle.narc_layout.proofs.ViewReads.{gap_read, stripped_tail_read, all_octets_read}
 use Rattle.narc_options.proofs.AreaRead.{IsArea, area_rows, area_read}
 use Rattle.narc_transport.specs.declared.as_tcp.TcpWithOffset.{TcpWithOffset}
 use Rattle.narc_transport.specs.declared.context.Ends.{Ends}

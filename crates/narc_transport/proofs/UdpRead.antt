@@ -11,9 +11,10 @@ use Rattle.narc_layout.proofs.TestLayout.{shape_word, unnamed_word, shape_tested
 use Rattle.narc_layout.proofs.ReadLayout.{Parts, IsRead, IsTailRead, read_layout}
 use Rattle.narc_layout.proofs.SeqRead.{seq_read}
 use Rattle.narc_layout.proofs.SeqTailRead.{seq_tail_read}
-use Rattle.narc_layout.proofs.RuleReads.{region_read}
+use Rattle.narc_layout.proofs.RegionReads.{region_read}
 use Rattle.narc_layout.proofs.SumReads.{is_good_or_none, checked_or_none_read}
-use Rattle.narc_layout.proofs.ViewReads.{gap_read, rename, named_read, measured_read, stripped_tail_read, all_octets_read, padding_read}
+use Rattle.narc_layout.proofs.NamedReads.{rename, named_read}
+use Rattle.narc_layout.proofs.ViewReads.{gap_read, measured_read, stripped_tail_read, all_octets_read, padding_read}
 use Rattle.narc_transport.specs.declared.context.Ends.{Ends}
 use Rattle.narc_packet.specs.declared.packet.Udp.{Udp}
 use Rattle.narc_transport.specs.Context.{IsThere}
