@@ -26,7 +26,7 @@ use Rattle.narc_sum.proofs.SomeSums.{some-front, some-behind, some_number, check
 use Rattle.narc_packet.specs.declared.packet.Udp.{Udp}
 use Rattle.narc_packet.specs.PacketView.{UdpView}
 use Rattle.narc_layout.proofs.Sizes.{pair_eq}
-use Rattle.narc_options.proofs.OptionSound.{data_sound}
+use Rattle.narc_rules.proofs.SizedBytes.{sized_bytes_sound}
 use Rattle.narc_transport.specs.declared.context.Ends.{Ends}
 use Rattle.narc_transport.specs.Context.{IsThere}
 use Rattle.narc_transport.specs.Udp.{is_udp_length, udp_pseudo_of, RawUdpFront, RawDatagram, RawUdp, udp_of, raw_udp, SameUdp, udp_front, udp_payload, udp_datagram, udp_summed, udp_and_surplus, udp_format}
@@ -71,7 +71,7 @@ datagram_sound : udp_datagram.sound
 unfolding seq gapped region measured all_octets named tested word
 datagram_sound = record {
   first_sound = record { part_sound = front_sound; wide = front_wide; words = refl };
-  second_sound = data_sound;
+  second_sound = sized_bytes_sound;
   carries = record { first_valid = λ c ok. ok.1; second_valid = λ c v ok a. omega (arith, a.2.0); same = λ c v w a. ap (λ n. n - 8) a.1 };
   meets = λ h. refl;
 }
@@ -134,10 +134,6 @@ summed_sound = record {
   some = lit≤ tt;
   known = lit≤ tt;
 }
-
-summed_whole : IsTrue udp_summed.whole
-unfolding named checked_or_none
-summed_whole = refl
 
 pub surplus_sound : udp_and_surplus.sound
 unfolding seq_tail named checked_or_none padding seq gapped tested word

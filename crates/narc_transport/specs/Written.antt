@@ -1,5 +1,6 @@
 -- Which datagrams and segments can be written in so many octets.
 use Rattle.std.specs.Prelude.{ℕ, ◌+◌, ◌*◌, ◌≤◌, length}
+use Rattle.narc_packet.specs.declared.limits.TheConstants.{MAX_LENGTH}
 use Rattle.narc_packet.specs.Options.{AreTcpOptions}
 use Rattle.narc_packet.specs.PacketView.{UdpView, tcp_view}
 use Rattle.narc_packet.specs.Ranges.{IsUdpInRange, IsTcpInRange}
