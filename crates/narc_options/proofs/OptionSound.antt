@@ -16,7 +16,8 @@ use Rattle.narc_list.specs.Pad.{padding}
 use Rattle.narc_list.specs.Region.{region}
 use Rattle.narc_list.specs.Until.{StartsZero, StartsOther}
 use Rattle.narc_list.specs.UntilLaws.{zero_spelled}
-use Rattle.narc_options.specs.Option.{is_kind, is_option_length, RawOption, option_kind, option_length, option_data, nothing, length_and_data, behind_kind, option_fields}
+use Rattle.narc_rules.proofs.SizedBytes.{sized_bytes_sound}
+use Rattle.narc_options.specs.Option.{is_kind, is_option_length, RawOption, option_kind, option_length, nothing, length_and_data, behind_kind, option_fields}
 use Rattle.narc_options.specs.Laws.{option_fields_laws}
 
 pub kind_some : (n : ℕ) → IsTrue (is_kind tt n) → n ≡ 0 → ⊥
@@ -36,13 +37,6 @@ pub length_sound : option_length.sound
 unfolding tested word
 length_sound = record { format = (lit≤ tt, lit≤ tt); steady = λ c v w e. ap (is_option_length c) e }
 
-pub data_sound : option_data.sound
-unfolding region measured all_octets
-data_sound = record {
-  part_sound = record { part_sound = tt; measured_valid = λ c ok n small. tt; written_valid = λ c ok. tt; same = λ c ok v b. (λ p. p, λ p. p) };
-  fills = λ c ok v b size p. ap length (sym p.1) ∙ size;
-}
-
 pub nothing_sound : nothing.sound
 unfolding region padding
 nothing_sound = record { part_sound = tt; fills = λ c ok v b size p. omega (arith, length-bits (replicate c 0), length-replicate {A = ℕ} c 0) }
@@ -51,7 +45,7 @@ length_and_data_sound : length_and_data.sound
 unfolding seq tested word region measured all_octets
 length_and_data_sound = record {
   first_sound = length_sound;
-  second_sound = data_sound;
+  second_sound = sized_bytes_sound;
   carries = record { first_valid = λ c ok. tt; second_valid = λ c n ok a. omega (arith, length_most n a.1); same = λ c v w e. ap (λ n. n - 2) e };
   meets = λ h. refl;
 }

@@ -2,8 +2,9 @@
 ghost use Rattle.std.specs.Prelude.{◌-◌, ◌<◌, ◌^◌};
 ghost use Rattle.narc_options.specs.Option.{is_kind, is_option_length, by_kind};
 
-use narc_compose::{Carry, Either, Measure, Measured, Pick, Seq, Union};
-use narc_list::{Bytes, Count, Pad, Region};
+use narc_compose::{Carry, Either, Pick, Seq, Union};
+use narc_list::{Pad, Region};
+use narc_rules::{AsMany, SizedBytes};
 use narc_scalar::{Test, Where, Word};
 
 // A kind alone, or (RFC 791, section 3.1; RFC 793, section 3.1)
@@ -18,10 +19,10 @@ pub type Kind = Where<Word<8>, IsKind>;
 pub type Length = Where<Word<8>, IsOptionLength>;
 
 /// The data, not copied.
-pub type Data = Region<Measured<Bytes, AnyOctets>, ContextOctets>;
+pub type Data = SizedBytes;
 
 /// No octets.
-pub type Nothing = Region<Pad, ContextOctets>;
+pub type Nothing = Region<Pad, AsMany>;
 
 /// The fields of an option: kind 1, which is no operation, or any other kind with its length, 2 to 40, and its data.
 ///
@@ -59,38 +60,6 @@ impl Test for IsOptionLength {
     fn holds(_ctx: (), value: &u64) -> bool {
         2 <= *value && *value <= 40
     }
-}
-
-/// As many octets as the context says.
-pub struct ContextOctets;
-
-impl Count for ContextOctets {
-    type Ctx = usize;
-
-    ghost count_of = { λ c. c };
-
-    ghost valid = { λ c. c < 2 ^ 64 };
-
-    fn count(ctx: usize) -> usize {
-        ctx
-    }
-}
-
-/// All octets that are there, whatever the context says.
-pub struct AnyOctets;
-
-impl Measure<()> for AnyOctets {
-    type Ctx = usize;
-
-    ghost measured_of = { λ c n. tt };
-
-    ghost written_of = { λ c. tt };
-
-    ghost valid = { λ c. c < 2 ^ 64 };
-
-    fn measured(_ctx: usize, _octets: usize) {}
-
-    fn written(_ctx: usize) {}
 }
 
 /// The data has the octets of the length but for two.

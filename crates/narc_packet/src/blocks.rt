@@ -13,7 +13,7 @@ use std::marker::Model;
 const MAX_OCTETS: usize = 8 * MAX_BLOCKS;
 
 /// Octets that have come (RFC 2018, section 3): the sequence numbers of the first of them, and of the one behind the last.
-#[derive(Clone, Copy, Debug, Default, Drop, PartialEq, Eq)]
+#[derive(Clone, Copy, Default, Drop, PartialEq, Eq)]
 pub struct SackBlock {
     pub left: u32,
     pub right: u32,
@@ -53,7 +53,7 @@ fn split_first_block(spelled: &[u8]) -> Option<(SackBlock, &[u8])>
 }
 
 /// The blocks of a selective acknowledgment, one behind the other.
-#[derive(Clone, Copy, Debug, Drop)]
+#[derive(Clone, Copy, Drop)]
 pub struct SackBlocks<'a> {
     /// The octets that spell the blocks, 8 for each: one to four in an option.
     pub spelled: &'a [u8],

@@ -3,7 +3,7 @@ ghost use Rattle.std.specs.Prelude.{◌≡◌};
 ghost use Rattle.narc_packet.specs.Options.{tcp_option_type};
 
 /// What an option of a TCP header is, by its kind and how many octets of data it has.
-#[derive(Clone, Copy, Debug, Drop, PartialEq, Eq)]
+#[derive(Clone, Copy, Drop, PartialEq, Eq)]
 pub enum TcpOptionType {
     /// Kind 2 with two octets: the maximum segment size (RFC 793, section 3.1).
     SegmentSize,

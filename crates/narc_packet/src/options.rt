@@ -11,7 +11,7 @@ use narc_bits::known_octets;
 use std::marker::Model;
 
 /// An option of an IPv4 header (RFC 791, section 3.1): no operation, or any other with its data.
-#[derive(Clone, Copy, Debug, Default, Drop, PartialEq, Eq)]
+#[derive(Clone, Copy, Default, Drop)]
 pub enum IpOption<'a> {
     #[default]
     Nop,
@@ -21,7 +21,7 @@ pub enum IpOption<'a> {
 
 /// An option of a TCP header (RFC 793, section 3.1): no operation, one of those that have a value of their own, or any
 /// other with its data.
-#[derive(Clone, Copy, Debug, Default, Drop)]
+#[derive(Clone, Copy, Default, Drop)]
 pub enum TcpOption<'a> {
     #[default]
     Nop,
@@ -132,7 +132,7 @@ fn spell_same_options(a: &[u8], b: &[u8]) -> bool
 }
 
 /// The options of an IPv4 header, one behind the other.
-#[derive(Clone, Copy, Debug, Drop)]
+#[derive(Clone, Copy, Drop)]
 pub struct IpOptions<'a> {
     /// The octets that spell the options, without an end of the list: at most 40 in a packet.
     pub spelled: &'a [u8],
@@ -180,7 +180,7 @@ impl<'a> IpOptions<'a> {
 }
 
 /// The options of a TCP header, one behind the other.
-#[derive(Clone, Copy, Debug, Drop)]
+#[derive(Clone, Copy, Drop)]
 pub struct TcpOptions<'a> {
     /// The octets that spell the options, without an end of the list: at most 40 in a packet.
     pub spelled: &'a [u8],

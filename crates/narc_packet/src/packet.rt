@@ -2,7 +2,7 @@
 use crate::options::{IpOptions, TcpOptions};
 
 /// The packet of an Ethernet II frame (RFC 894): two hardware addresses, and what the frame carries.
-#[derive(Debug, Drop)]
+#[derive(Drop)]
 pub struct Packet<'a> {
     /// The destination's hardware address.
     pub dst: [u8; 6],
@@ -12,7 +12,7 @@ pub struct Packet<'a> {
 }
 
 /// What an Ethernet frame carries.
-#[derive(Debug, Drop)]
+#[derive(Drop)]
 pub enum EthBody<'a> {
     /// An ARP packet for Ethernet and IPv4.
     Arp(Arp),
@@ -23,7 +23,7 @@ pub enum EthBody<'a> {
 }
 
 /// An ARP packet for Ethernet and IPv4 (RFC 826): an operation, and the addresses of sender and target.
-#[derive(Clone, Copy, Debug, Drop, PartialEq, Eq)]
+#[derive(Clone, Copy, Drop, PartialEq, Eq)]
 pub struct Arp {
     /// The operation: 1 for a request, 2 for a reply, and any other number.
     pub op: u16,
@@ -34,7 +34,7 @@ pub struct Arp {
 }
 
 /// An IPv4 packet (RFC 791), and what it carries.
-#[derive(Clone, Copy, Debug, Drop)]
+#[derive(Clone, Copy, Drop)]
 pub struct Ipv4<'a> {
     pub tos: u8,
     pub id: u16,
@@ -52,7 +52,7 @@ pub struct Ipv4<'a> {
 }
 
 /// What an IPv4 packet carries.
-#[derive(Clone, Copy, Debug, Drop)]
+#[derive(Clone, Copy, Drop)]
 pub enum IpBody<'a> {
     Udp(Udp<'a>),
     Tcp(Tcp<'a>),
@@ -61,7 +61,7 @@ pub enum IpBody<'a> {
 }
 
 /// A UDP datagram (RFC 768).
-#[derive(Clone, Copy, Debug, Drop, PartialEq, Eq)]
+#[derive(Clone, Copy, Drop)]
 pub struct Udp<'a> {
     pub sport: u16,
     pub dport: u16,
@@ -69,7 +69,7 @@ pub struct Udp<'a> {
 }
 
 /// A TCP segment (RFC 793). The flags are 32 URG, 16 ACK, 8 PSH, 4 RST, 2 SYN, 1 FIN.
-#[derive(Clone, Copy, Debug, Drop)]
+#[derive(Clone, Copy, Drop)]
 pub struct Tcp<'a> {
     pub sport: u16,
     pub dport: u16,

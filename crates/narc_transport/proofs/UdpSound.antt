@@ -3,8 +3,7 @@ use Rattle.std.proofs.Common.{◌≡◌, ℕ, ◌+◌, ◌-◌, ◌*◌, ◌/◌
 use Rattle.std.proofs.Math.Nat.{mod-eq_of_lt}
 use Rattle.std.proofs.Math.ListN.{length-replicate}
 use Rattle.std.proofs.lemmas.Bool.{ltb-true, ltb-false}
-use Rattle.narc_bits.specs.Bits.{bits, octets_of_bits}
-use Rattle.narc_bits.specs.InternetSum.{total}
+use Rattle.narc_bits.specs.Bits.{bits, number_of_bits}
 use Rattle.narc_bits.proofs.Numbers.{length-bits, length-bits_of_number}
 use Rattle.narc_format.specs.Holes.{IsHoled}
 use Rattle.narc_format.specs.Widths.{IsWide}
@@ -23,15 +22,15 @@ use Rattle.narc_list.specs.Bytes.{all_octets}
 use Rattle.narc_list.specs.Pad.{padding}
 use Rattle.narc_list.specs.Region.{region}
 use Rattle.narc_sum.specs.Checked.{checked_or_none}
+use Rattle.narc_sum.proofs.SomeSums.{some-front, some-behind, some_number, checked_is_sound}
 use Rattle.narc_packet.specs.declared.packet.Udp.{Udp}
 use Rattle.narc_packet.specs.PacketView.{UdpView}
 use Rattle.narc_layout.proofs.Sizes.{pair_eq}
-use Rattle.narc_options.proofs.OptionSound.{data_sound}
+use Rattle.narc_rules.proofs.SizedBytes.{sized_bytes_sound}
 use Rattle.narc_transport.specs.declared.context.Ends.{Ends}
 use Rattle.narc_transport.specs.Context.{IsThere}
 use Rattle.narc_transport.specs.Udp.{is_udp_length, udp_pseudo_of, RawUdpFront, RawDatagram, RawUdp, udp_of, raw_udp, SameUdp, udp_front, udp_payload, udp_datagram, udp_summed, udp_and_surplus, udp_format}
 use Rattle.narc_transport.specs.Laws.{udp_front_laws, udp_summed_laws, udp_and_surplus_laws}
-use Rattle.narc_transport.proofs.PseudoSums.{pseudo_sum}
 
 front_sound : udp_front.sound
 unfolding seq named tested word
@@ -72,7 +71,7 @@ datagram_sound : udp_datagram.sound
 unfolding seq gapped region measured all_octets named tested word
 datagram_sound = record {
   first_sound = record { part_sound = front_sound; wide = front_wide; words = refl };
-  second_sound = data_sound;
+  second_sound = sized_bytes_sound;
   carries = record { first_valid = λ c ok. ok.1; second_valid = λ c v ok a. omega (arith, a.2.0); same = λ c v w a. ap (λ n. n - 8) a.1 };
   meets = λ h. refl;
 }
@@ -111,43 +110,30 @@ datagram_size c v b p =
       most = length_most c.1 v.0.1 l.1;
     }
 
-pseudo_some : (c : Ends × ℕ) → IsThere c → (n m : ℕ) → 0 < total (udp_pseudo_of c n) + m
-pseudo_some c ok n m = omega (arith, pseudo_sum c.0.src c.0.dst ok.0.0.0 ok.0.1.0 17 n)
-
 datagram_holed : IsHoled udp_datagram 6
 datagram_holed = seq_is_holed (λ c. c.1) (λ c v. v.1 - 8) IsThere (gapped 48 udp_front) udp_payload 6 (gapped_is_holed 48 udp_front udp_front_laws)
 
-datagram_whole : IsTrue udp_datagram.whole
-unfolding seq gapped region
-datagram_whole = refl
+-- a length is never 0
+front_some : (c : ℕ) (v : RawUdpFront) (b : List Bool) → udp_front.stands c v b → 0 < number_of_bits b
+unfolding seq named tested word
+front_some c v b p =
+    let length = p.second in
+    some-behind p.front p.back p.joined (subst (λ l. 0 < number_of_bits l) (sym length.0.1) (some_number 16 v.1 length.0.0 (omega (arith, length_least c v.1 length.1))))
 
-datagram_aligned : IsTrue udp_datagram.aligned
-unfolding seq gapped region
-datagram_aligned = refl
-
-datagram_valid : (c : Ends × ℕ) → udp_datagram.valid c → IsThere c
-unfolding seq
-datagram_valid c ok = ok
+datagram_some : (c : Ends × ℕ) (v : RawDatagram) (b : List Bool) → udp_datagram.stands c v b → 0 < number_of_bits b
+unfolding seq gapped
+datagram_some c v b p = let g = p.first in some-front p.front p.back p.joined (some-front g.front g.word g.joined (front_some c.1 v.0 g.front g.stood))
 
 summed_sound : udp_summed.sound
-unfolding named checked_or_none
+unfolding named checked_or_none seq gapped region
 summed_sound = record {
-  part_sound = record {
-    part_sound = datagram_sound;
-    holed = datagram_holed;
-    whole = datagram_whole;
-    aligned = datagram_aligned;
-    even = refl;
-    some = λ c ok v b p. pseudo_some c (datagram_valid c ok) (length b / 8) (total (octets_of_bits (length b / 8) b));
-    short = λ c ok v b p. let s = datagram_size c v b p in omega (arith, s.size, s.small);
-  };
+  part_sound =
+      checked_is_sound udp_pseudo_of 6 udp_datagram datagram_sound datagram_holed refl refl refl
+      (λ c ok v b p. let s = datagram_size c v b p in (omega (arith, s.size), omega (arith, s.size, s.small)))
+      (λ c ok. datagram_some c);
   some = lit≤ tt;
   known = lit≤ tt;
 }
-
-summed_whole : IsTrue udp_summed.whole
-unfolding named checked_or_none
-summed_whole = refl
 
 pub surplus_sound : udp_and_surplus.sound
 unfolding seq_tail named checked_or_none padding seq gapped tested word

@@ -1,5 +1,6 @@
 -- Which datagrams and segments can be written in so many octets.
 use Rattle.std.specs.Prelude.{ℕ, ◌+◌, ◌*◌, ◌≤◌, length}
+use Rattle.narc_packet.specs.declared.limits.TheConstants.{MAX_LENGTH}
 use Rattle.narc_packet.specs.Options.{AreTcpOptions}
 use Rattle.narc_packet.specs.PacketView.{UdpView, tcp_view}
 use Rattle.narc_packet.specs.Ranges.{IsUdpInRange, IsTcpInRange}
@@ -10,7 +11,7 @@ use Rattle.narc_transport.specs.declared.as_tcp.TcpWithOffset.{TcpWithOffset}
 -- header and payload fit the octets that are there, and the field of the length
 pub record FitsUdp (there : ℕ) (u : UdpView) : Type 0 where
   pub in_range : IsUdpInRange u
-  pub short : udp_length u ≤ MAX_CHECKED
+  pub short : udp_length u ≤ MAX_LENGTH
   pub fits : udp_length u ≤ there
 
 -- The options fit the area that the offset leaves behind 20 octets, and the header the octets that are there.

@@ -7,10 +7,10 @@ use crate::as_udp::AsUdp;
 use crate::context::Ends;
 use crate::pseudo::ends_sum;
 use crate::udp_front::{RawUdpFront, UdpFront};
-use narc_compose::{Carry, Gap, Measured, Named, Seq, SeqTail, Strip};
-use narc_list::{Bytes, Pad, Region};
-use narc_options::{AnyOctets, ContextOctets};
+use narc_compose::{Carry, Gap, Named, Seq, SeqTail, Strip};
+use narc_list::Pad;
 use narc_packet::field;
+use narc_rules::SizedBytes;
 use narc_sum::{CheckedOrNone, Pseudo};
 
 // 32 bits a line (RFC 768):
@@ -22,9 +22,7 @@ use narc_sum::{CheckedOrNone, Pseudo};
 //     +-------------------------------+-------------------------//----+
 //  8  |                            payload                            |
 //     +---------------------------------------------------------//----+
-type Payload = Region<Measured<Bytes, AnyOctets>, ContextOctets>;
-
-type Datagram = Seq<Gap<UdpFront>, Payload, PayloadOf>;
+type Datagram = Seq<Gap<UdpFront>, SizedBytes, PayloadOf>;
 
 type Summed = Named<CheckedOrNone<Datagram, UdpPseudo>, { field::UDP_CHECKSUM }>;
 

@@ -10,12 +10,13 @@ use narc_ipv4::{
     IsHeaderLength, IsTotalLength, IsVersion, LengthsIn, ip_head_is_sound,
 };
 use narc_list::Region;
-use narc_options::{ContextOctets, OptionAreaPart};
+use narc_options::OptionAreaPart;
 use narc_packet::IpOptions;
 use narc_packet::field::{
     IPV4_CHECKSUM, IPV4_FLAGS, IPV4_HEADER_LENGTH, IPV4_OPTIONS, IPV4_TOS, IPV4_TOTAL_LENGTH,
     IPV4_VERSION,
 };
+use narc_rules::AsMany;
 use narc_samples::are_one;
 use narc_scalar::{Octets4, Where, Word};
 use narc_sum::{Checked, NoPseudo};
@@ -94,7 +95,7 @@ fn alert_with_area(area: [u8; 4], checksum: [u8; 2]) -> [u8; 24] {
 fn a_header_is_these_fields_in_order(_rt: HostRuntime) {
     are_one(
         PhantomData::<IpArea>,
-        PhantomData::<Named<Region<Parted<OptionAreaPart>, ContextOctets>, 18>>,
+        PhantomData::<Named<Region<Parted<OptionAreaPart>, AsMany>, 18>>,
     );
     are_one(
         PhantomData::<Before>,

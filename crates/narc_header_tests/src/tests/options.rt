@@ -7,10 +7,11 @@ use narc_compose::{Either, Measured, Parted, Seq, Union};
 use narc_format::{Fault, read_front};
 use narc_list::{Bytes, Pad, Region, Until};
 use narc_options::{
-    AnyOctets, ByKind, ContextOctets, DataOf, IsKind, IsOptionLength, KindOf, OptionArea,
+    ByKind, DataOf, IsKind, IsOptionLength, KindOf, OptionArea,
     OptionAreaPart, OptionFields, OptionRegion, RawOption, option_fields_are_sound,
     option_region_is_sound,
 };
+use narc_rules::{AnyNumber, AsMany};
 use narc_samples::are_one;
 use narc_scalar::{Where, Word};
 use std::marker::PhantomData;
@@ -50,10 +51,10 @@ fn an_option_is_these_fields_in_order(_rt: HostRuntime) {
                 Where<Word<8>, IsKind>,
                 Union<
                     ByKind,
-                    Region<Pad, ContextOctets>,
+                    Region<Pad, AsMany>,
                     Seq<
                         Where<Word<8>, IsOptionLength>,
-                        Region<Measured<Bytes, AnyOctets>, ContextOctets>,
+                        Region<Measured<Bytes, AnyNumber>, AsMany>,
                         DataOf,
                     >,
                 >,
@@ -63,11 +64,11 @@ fn an_option_is_these_fields_in_order(_rt: HostRuntime) {
     );
     are_one(
         PhantomData::<OptionArea<'static>>,
-        PhantomData::<Until<'static, OptionFields, 40, ContextOctets>>,
+        PhantomData::<Until<'static, OptionFields, 40, AsMany>>,
     );
     are_one(
         PhantomData::<OptionRegion>,
-        PhantomData::<Region<Parted<OptionAreaPart>, ContextOctets>>,
+        PhantomData::<Region<Parted<OptionAreaPart>, AsMany>>,
     );
 }
 

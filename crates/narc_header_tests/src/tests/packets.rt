@@ -30,7 +30,7 @@ fn options_of_ipv4_are_listed_in_order(rt: HostRuntime) {
         spelled: &[1, 68, 3, 9],
     }
     .iter();
-    assert!(rt; options.next() == Some(IpOption::Nop));
+    assert!(rt; matches!(options.next(), Some(IpOption::Nop)));
     let Some(IpOption::Other { kind, data }) = options.next() else {
         panic!(rt; "the second option has data");
     };

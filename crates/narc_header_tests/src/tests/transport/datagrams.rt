@@ -2,9 +2,9 @@
 use super::{fault, read_datagram, write_datagram};
 use narc_compose::{ForSecond, Gap, Measured, Named, NoContext, Seq, SeqTail, Strip};
 use narc_list::{Bytes, Pad, Region};
-use narc_options::{AnyOctets, ContextOctets};
 use narc_packet::Udp;
 use narc_packet::field::{UDP_CHECKSUM, UDP_DESTINATION, UDP_LENGTH, UDP_SOURCE};
+use narc_rules::{AnyNumber, AsMany};
 use narc_samples::{DATAGRAM, ODD_DATAGRAM, are_one};
 use narc_scalar::{Where, Word};
 use narc_sum::CheckedOrNone;
@@ -33,7 +33,7 @@ fn a_datagram_is_these_fields_in_order(_rt: HostRuntime) {
                                         ForSecond,
                                     >,
                                 >,
-                                Region<Measured<Bytes, AnyOctets>, ContextOctets>,
+                                Region<Measured<Bytes, AnyNumber>, AsMany>,
                                 PayloadOf,
                             >,
                             UdpPseudo,

@@ -2,9 +2,10 @@
 use super::{fault, read_segment, write_segment};
 use narc_compose::{ForFirst, ForSecond, Gap, Named, NoContext, Parted, Seq, SeqTail, Strip};
 use narc_list::{Bytes, Region};
-use narc_options::{ContextOctets, OptionAreaPart};
+use narc_options::OptionAreaPart;
 use narc_packet::field::{TCP_CHECKSUM, TCP_OFFSET, TCP_OPTIONS};
 use narc_packet::{Tcp, TcpOptions};
+use narc_rules::AsMany;
 use narc_samples::{CONNECTION_REQUEST, are_one};
 use narc_scalar::{Where, Word};
 use narc_sum::CheckedTail;
@@ -21,7 +22,7 @@ type Ends = Seq<
 
 type Words = Seq<Named<Where<Word<16>, IsOffset>, 28>, Word<16>, ForFirst>;
 
-type Options = Region<Parted<OptionAreaPart>, ContextOctets>;
+type Options = Region<Parted<OptionAreaPart>, AsMany>;
 
 #[test]
 fn a_part_hands_on_to_segments(_rt: HostRuntime) {
