@@ -1,0 +1,2 @@
+mod CoveredHead
+mod LampState

@@ -6,6 +6,4 @@ pub mod lamp;
 pub mod lite;
 pub mod message;
 pub mod readings;
-#[cfg(test)]
-mod tests;
 pub mod vxlan;

@@ -7,8 +7,7 @@ ghost use Rattle.narc_rules.specs.Answer.{IsAllAnswer};
 
 use narc_rules::{
     Bytes, Carry, Checked, Cursor, Fault, Format, Gap, MAX_FRAME, NoContext, NoPseudo, Seq,
-    SeqTail, SizedBytes, Tail, Test, Then, Where, Word, Writer, format_is_holed, format_is_wide,
-    read_all,
+    SeqTail, SizedBytes, Tail, Test, Then, Where, Word, Writer, read_all,
 };
 
 //  |          source port          |       destination port        |
@@ -87,26 +86,4 @@ pub fn write_lite<'a>(datagram: &Datagram<'a>, room: &mut [u8]) -> usize
 /// The conditions of the rules hold.
 pub fn lite_is_sound()
     ensures { ⟦<Lite as Tail<Cursor<'static>>>⟧.meaning.sound }
-{
-    summed_is_sound();
-}
-
-fn summed_is_sound()
-    ensures { ⟦<Summed as Format<Cursor<'static>>>⟧.meaning.sound }
-{
-    head_is_sound();
-    covered_is_sound();
-    format_is_wide::<Cursor<'static>, Head>();
-    format_is_holed::<Cursor<'static>, Covered>();
-}
-
-fn covered_is_sound()
-    ensures { ⟦<Covered as Format<Cursor<'static>>>⟧.meaning.sound }
-{
-    head_is_sound();
-    format_is_wide::<Cursor<'static>, Head>();
-}
-
-fn head_is_sound()
-    ensures { ⟦<Head as Format<Cursor<'static>>>⟧.meaning.sound }
 {}

@@ -43,7 +43,7 @@ type RawVxlan = Then<
 /// The flag I is 1. The reserved bits are any when read, and 0 when written.
 pub type Vxlan = Strip<RawVxlan, AsHeader>;
 
-#[derive(Clone, Copy, Debug, PartialEq, Eq)]
+#[derive(Clone, Copy, PartialEq, Eq)]
 pub struct Header {
     /// The network identifier, below 2^24.
     pub vni: u32,

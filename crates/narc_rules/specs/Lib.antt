@@ -21,3 +21,16 @@ pub use Rattle.narc_compose.specs.Union
 pub use Rattle.narc_compose.specs.Gap
 pub use Rattle.narc_compose.specs.Measured
 pub use Rattle.narc_sum.specs.Checked
+pub use Rattle.narc_format.specs.Meaning
+pub use Rattle.narc_format.specs.Laws
+pub use Rattle.narc_format.specs.Widths
+pub use Rattle.narc_format.specs.Holes
+pub use Rattle.narc_scalar.specs.WordLaws
+pub use Rattle.narc_scalar.specs.ConstantLaws
+pub use Rattle.narc_scalar.specs.FlagLaws
+pub use Rattle.narc_scalar.specs.TestedLaws
+pub use Rattle.narc_compose.specs.Both
+pub use Rattle.narc_compose.specs.BothLaws
+pub use Rattle.narc_compose.specs.SeqLaws
+pub use Rattle.narc_compose.specs.SeqHoles
+pub use Rattle.narc_compose.specs.GapLaws

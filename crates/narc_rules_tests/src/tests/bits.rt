@@ -19,20 +19,16 @@ fn take_words<L: Ledger>(rt: &impl Abort, blank: Blank)
     let mut steps = Steps::<L>::new(blank);
     let octets = [0b1010_1011, 0b1100_1101];
     let mut cursor = Cursor::new(&octets);
-    assert_eq!(rt; cursor.take::<3, L>(&mut steps).ok(), Some(0b101));
-    assert_eq!(rt;
-        cursor.take::<10, L>(&mut steps).ok(),
-        Some(0b0_1011_1100_1)
-    );
-    assert_eq!(rt; cursor.place(), 13);
-    assert_eq!(rt; cursor.left(), 3);
+    assert!(rt; cursor.take::<3, L>(&mut steps).ok() == Some(0b101));
+    assert!(rt; cursor.take::<10, L>(&mut steps).ok() == Some(0b0_1011_1100_1));
+    assert!(rt; cursor.place() == 13);
+    assert!(rt; cursor.left() == 3);
     assert!(rt; cursor.take::<4, L>(&mut steps).is_err());
-    assert_eq!(rt;
-        cursor.place(),
-        13,
+    assert!(rt;
+        cursor.place() == 13,
         "a place stays where too few bits are left"
     );
-    assert_eq!(rt; cursor.take::<3, L>(&mut steps).ok(), Some(0b101));
+    assert!(rt; cursor.take::<3, L>(&mut steps).ok() == Some(0b101));
 }
 
 #[test]
@@ -48,12 +44,15 @@ fn take_slice<L: Ledger>(rt: &impl Abort, blank: Blank)
     let mut steps = Steps::<L>::new(blank);
     let octets = [1, 2, 3, 4];
     let mut cursor = Cursor::new(&octets);
-    assert_eq!(rt; cursor.take::<8, L>(&mut steps).ok(), Some(1));
-    assert_eq!(rt; cursor.left(), 24);
+    assert!(rt; cursor.take::<8, L>(&mut steps).ok() == Some(1));
+    assert!(rt; cursor.left() == 24);
     let slice = cursor.slice(2, &mut steps);
-    assert_eq!(rt; cursor.place(), 24);
+    assert!(rt; cursor.place() == 24);
     drop(cursor);
-    assert_eq!(rt; slice, [2, 3].as_slice(), "the octets are the frame's own");
+    assert!(rt;
+        slice == [2, 3].as_slice(),
+        "the octets are the frame's own"
+    );
 }
 
 #[test]
@@ -61,15 +60,15 @@ fn a_writer_changes_the_named_bits_only(rt: HostRuntime) {
     let mut room = [0xff; 4];
     let mut writer = Writer::new();
     writer.put::<3>(&mut room, 0b010);
-    assert_eq!(rt; room, [0b0101_1111, 0xff, 0xff, 0xff]);
+    assert!(rt; room == [0b0101_1111, 0xff, 0xff, 0xff]);
     writer.put::<9>(&mut room, 0);
-    assert_eq!(rt; room, [0b0100_0000, 0b0000_1111, 0xff, 0xff]);
+    assert!(rt; room == [0b0100_0000, 0b0000_1111, 0xff, 0xff]);
     writer.put::<4>(&mut room, 0b1111);
     writer.put_zeros(&mut room, 1);
-    assert_eq!(rt; room, [0b0100_0000, 0b0000_1111, 0, 0xff]);
+    assert!(rt; room == [0b0100_0000, 0b0000_1111, 0, 0xff]);
     writer.put_slice(&mut room, &[7]);
-    assert_eq!(rt; room, [0b0100_0000, 0b0000_1111, 0, 7]);
-    assert_eq!(rt; writer.place(), 32);
+    assert!(rt; room == [0b0100_0000, 0b0000_1111, 0, 7]);
+    assert!(rt; writer.place() == 32);
 }
 
 #[test]
@@ -85,19 +84,19 @@ fn split_octets<L: Ledger>(rt: &impl Abort, blank: Blank)
     let mut steps = Steps::<L>::new(blank);
     let octets = [1, 2, 3, 4];
     let mut cursor = Cursor::new(&octets);
-    assert_eq!(rt; cursor.take::<8, L>(&mut steps).ok(), Some(1));
-    assert_eq!(rt; cursor.left(), 24);
+    assert!(rt; cursor.take::<8, L>(&mut steps).ok() == Some(1));
+    assert!(rt; cursor.left() == 24);
     let mut before = cursor.copy();
     let mut part = cursor.split(2);
-    assert_eq!(rt; part.left(), 16);
-    assert_eq!(rt; part.take::<16, L>(&mut steps).ok(), Some(0x0203));
+    assert!(rt; part.left() == 16);
+    assert!(rt; part.take::<16, L>(&mut steps).ok() == Some(0x0203));
     assert!(rt;
         part.take::<1, L>(&mut steps).is_err(),
         "the fourth octet is behind the part"
     );
-    assert_eq!(rt; cursor.take::<8, L>(&mut steps).ok(), Some(4));
-    assert_eq!(rt; before.take::<8, L>(&mut steps).ok(), Some(2));
-    assert_eq!(rt; before.sum(1, 3, &mut steps), 0x0203 + 0x0400);
+    assert!(rt; cursor.take::<8, L>(&mut steps).ok() == Some(4));
+    assert!(rt; before.take::<8, L>(&mut steps).ok() == Some(2));
+    assert!(rt; before.sum(1, 3, &mut steps) == 0x0203 + 0x0400);
 }
 
 #[test]
@@ -106,10 +105,10 @@ fn a_patch_changes_two_octets(rt: HostRuntime) {
     let mut writer = Writer::new();
     writer.put_zeros(&mut room, 5);
     writer.patch16(&mut room, 1, 0x1234);
-    assert_eq!(rt; room, [0, 0x12, 0x34, 0, 0, 0xff]);
-    assert_eq!(rt; writer.place(), 40);
-    assert_eq!(rt; writer.sum(&room, 1, 4), 0x1234);
-    assert_eq!(rt; writer.sum(&room, 0, 3), 0x12 + 0x3400);
+    assert!(rt; room == [0, 0x12, 0x34, 0, 0, 0xff]);
+    assert!(rt; writer.place() == 40);
+    assert!(rt; writer.sum(&room, 1, 4) == 0x1234);
+    assert!(rt; writer.sum(&room, 0, 3) == 0x12 + 0x3400);
 }
 
 /// Octets with room for 64 bits from each of the first 16 places on.
@@ -150,10 +149,10 @@ fn take_every_width<L: Ledger>(rt: &impl Abort, blank: Blank)
     let octets = OCTETS;
     let mut start = Cursor::new(&octets);
     for place in 0..16 {
-        assert_eq!(rt; start.place(), place);
+        assert!(rt; start.place() == place);
         for count in 1..65 {
             let taken = start.copy().take_bits(count, &mut steps).ok();
-            assert_eq!(rt; taken, Some(plain_number(&octets, place, count)));
+            assert!(rt; taken == Some(plain_number(&octets, place, count)));
         }
         assert!(rt; start.take::<1, L>(&mut steps).is_ok());
     }
@@ -189,6 +188,6 @@ fn put_width(rt: &impl Abort, place: usize, count: u32)
         } else {
             plain_bit(&OCTETS, i)
         };
-        assert_eq!(rt; plain_bit(&room, i), bit);
+        assert!(rt; plain_bit(&room, i) == bit);
     }
 }

@@ -1,11 +1,13 @@
 //! Sequences, names, unions, and values seen as others.
 #![tactic(auto, unfolding(narc_compose::specs::Seq::seq, narc_compose::specs::Seq::seq_tail, narc_compose::specs::Named::named, narc_compose::specs::Strip::stripped, narc_compose::specs::Union::united, narc_scalar::specs::Word::word, narc_list::specs::Bytes::all_octets, narc_bits::specs::Bits::bits_of_number, narc_bits::specs::Bits::bits))]
 
+ghost use Rattle.std.specs.Prelude.{◌≤◌, length};
+
 use super::calls::{width, write, write_all};
 use super::samples::{
     DATAGRAM, DESTINATION, Datagram, Kinded, KindedTail, Ports, SOURCE, Spare, SpareTail,
 };
-use narc_bits::Cursor;
+use narc_bits::{Cursor, MAX_FRAME};
 use narc_compose::{Either, Named};
 use narc_format::{Fault, Field, Front, read_all, read_front};
 
@@ -17,9 +19,33 @@ fn fault(field: u8, at: u64) -> Fault {
     }
 }
 
+fn read_ports(octets: &[u8]) -> Result<Front<(u64, u64)>, Fault>
+    requires { length octets.now ≤ MAX_FRAME }
+{
+    read_front::<Ports>((), octets)
+}
+
+fn read_kinded(octets: &[u8]) -> Result<Front<(u64, Either<u64, u64>)>, Fault>
+    requires { length octets.now ≤ MAX_FRAME }
+{
+    read_front::<Kinded>((), octets)
+}
+
+fn read_named<'a>(octets: &'a [u8]) -> Result<((u64, u64), &'a [u8]), Fault>
+    requires { length octets.now ≤ MAX_FRAME }
+{
+    read_all::<Named<Datagram, DATAGRAM>>((), octets)
+}
+
+fn read_spare(octets: &[u8]) -> Result<Front<u64>, Fault>
+    requires { length octets.now ≤ MAX_FRAME }
+{
+    read_front::<Spare>((), octets)
+}
+
 #[test]
 fn a_sequence_is_read_in_order(rt: HostRuntime) {
-    let read = read_front::<Ports>((), &[0, 80, 1, 0, 9]);
+    let read = read_ports(&[0, 80, 1, 0, 9]);
     assert!(rt;
         read == Ok(Front {
             value: (80, 256),
@@ -44,19 +70,19 @@ fn a_fault_of_the_second_part_is_moved_and_keeps_its_name(rt: HostRuntime) {
 
 #[test]
 fn an_unnamed_fault_gets_the_name(rt: HostRuntime) {
-    assert!(rt; read_front::<Ports>((), &[0]) == Err(fault(SOURCE, 0)));
+    assert!(rt; read_ports(&[0]) == Err(fault(SOURCE, 0)));
 }
 
 #[test]
 fn the_second_part_depends_on_the_first(rt: HostRuntime) {
-    let left = read_front::<Kinded>((), &[0, 7, 8]);
+    let left = read_kinded(&[0, 7, 8]);
     assert!(rt;
         left == Ok(Front {
             value: (0, Either::Left(7)),
             bits: 16
         })
     );
-    let right = read_front::<Kinded>((), &[1, 7, 8]);
+    let right = read_kinded(&[1, 7, 8]);
     assert!(rt;
         right
             == Ok(Front {
@@ -78,9 +104,9 @@ fn the_member_that_the_first_part_picks_is_written(rt: HostRuntime) {
 
 #[test]
 fn a_tail_behind_a_format_is_all_that_is_left(rt: HostRuntime) {
-    let read = read_all::<Named<Datagram, DATAGRAM>>((), &[0, 80, 1, 0, 9]);
+    let read = read_named(&[0, 80, 1, 0, 9]);
     assert!(rt; read == Ok(((80, 256), [9].as_slice())));
-    let refused = read_all::<Named<Datagram, DATAGRAM>>((), &[0, 80, 1]);
+    let refused = read_named(&[0, 80, 1]);
     assert!(rt; refused == Err(fault(DESTINATION, 16)));
 }
 
@@ -115,9 +141,9 @@ fn the_tail_that_the_first_part_picks_is_written(rt: HostRuntime) {
 
 #[test]
 fn a_spare_bit_is_forgotten_and_written_as_0(rt: HostRuntime) {
-    let spare = read_front::<Spare>((), &[0x85]);
+    let spare = read_spare(&[0x85]);
     assert!(rt; spare == Ok(Front { value: 5, bits: 8 }));
-    assert!(rt; read_front::<Spare>((), &[0x05]) == spare);
+    assert!(rt; read_spare(&[0x05]) == spare);
     let mut room = [0xff, 0xff];
     assert!(rt; write::<Cursor<'_>, Spare>((), &5, &mut room) == (8, 8));
     assert!(rt; room == [0x05, 0xff]);

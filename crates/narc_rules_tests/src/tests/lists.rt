@@ -5,7 +5,7 @@ ghost use Rattle.std.specs.Prelude.{◌≡◌, ℕ, ◌≤◌, ◌<◌, ◌++◌
 
 use super::calls::{write, write_all};
 use arrayvec::ArrayVec;
-use narc_bits::Cursor;
+use narc_bits::{Cursor, MAX_FRAME};
 use narc_compose::{Gap, Measure, Measured};
 use narc_format::{Fault, Front, Gather, read_all, read_front};
 use narc_list::{Bytes, Count, Counted, Region, Until};
@@ -150,9 +150,15 @@ fn a_region_is_just_its_octets(rt: HostRuntime) {
     assert!(rt; room == [7, 8, 0xff]);
 }
 
+fn read_area<'a>(octets: &'a [u8]) -> Result<Front<&'a [u8]>, Fault>
+    requires { length octets.now ≤ MAX_FRAME }
+{
+    read_front::<Area<'a>>((), octets)
+}
+
 #[test]
 fn an_area_ends_at_an_octet_0(rt: HostRuntime) {
-    let letter = read_front::<Area<'_>>((), b"a\0b");
+    let letter = read_area(b"a\0b");
     assert!(rt;
         letter
             == Ok(Front {
@@ -160,7 +166,7 @@ fn an_area_ends_at_an_octet_0(rt: HostRuntime) {
                 bits: 16
             })
     );
-    let letters = read_front::<Area<'_>>((), b"abc");
+    let letters = read_area(b"abc");
     assert!(rt;
         letters
             == Ok(Front {
@@ -168,9 +174,9 @@ fn an_area_ends_at_an_octet_0(rt: HostRuntime) {
                 bits: 16
             })
     );
-    let none = read_front::<Area<'_>>((), &[0, 7]);
-    assert!(rt; none == read_front::<Area<'_>>((), &[0, 0]));
-    assert!(rt; read_front::<Area<'_>>((), &[97, 7]) == Err(Fault::unnamed().later_by(8)));
+    let none = read_area(&[0, 7]);
+    assert!(rt; none == read_area(&[0, 0]));
+    assert!(rt; read_area(&[97, 7]) == Err(Fault::unnamed().later_by(8)));
     let mut room = [0xff; 3];
     assert!(rt; write::<Cursor<'_>, Area<'_>>((), &b"a".as_slice(), &mut room) == (16, 16));
     assert!(rt; room == [97, 0, 0xff]);

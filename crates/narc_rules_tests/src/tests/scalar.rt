@@ -82,8 +82,8 @@ fn copy_counted<I: Input, F: Wide<I>, L: Ledger>(
         Ok(value) => {
             let mut writer = Writer::new();
             F::write(ctx, &value, room, &mut writer);
-            assert_eq!(rt; writer.place(), F::size(ctx, &value));
-            assert_eq!(rt; writer.place(), F::width() as usize);
+            assert!(rt; writer.place() == F::size(ctx, &value));
+            assert!(rt; writer.place() == F::width() as usize);
             Ok(value)
         }
         Err(fault) => Err(fault),

@@ -1,10 +1,9 @@
 use Rattle.std.proofs.Common.{◌<◌, arith}
-use Rattle.std.specs.Prelude.{nat_lt}
 use Rattle.std.proofs.lemmas.Bool.{lt-ltb, ltb-true}
-use Rattle.narc_rules.proofs.BitLayouts.{word_spelled, constant_spelled, flag_spelled, name_spelled, tested_spelled, then_spelled}
 use Rattle.narc_examples.specs.declared.lamp.Colour.{Colour}
 use Rattle.narc_examples.specs.declared.lamp.Colour.TheVariants.{Red, Green}
 use Rattle.narc_examples.specs.Lamp.{colour_number}
+use Rattle.narc_examples.proofs.LampState.{lamp_spelled}
 use Rattle.narc_examples.proofs.lamp.lamp_is_its_bits.Goals as goal
 
 colour_small : (colour : Colour) → colour_number colour < 3
@@ -13,9 +12,7 @@ colour_small Green = omega arith
 
 pub returns : goal.returns
 returns c = λ lit colour brightness b.
-    let colours = name_spelled (word_spelled 3) colour_number in
-    let percent = tested_spelled (word_spelled 8) (λ c value. nat_lt value 101) in
-    let spelled = (then_spelled (constant_spelled 4 2) (then_spelled flag_spelled (then_spelled colours percent))).stands (tt, (lit, (colour, brightness))) b in (
+    let spelled = lamp_spelled.stands (tt, (lit, (colour, brightness))) b in (
       λ p. let h = spelled.0 p in record { percent = omega (arith, ltb-true brightness 101 h.0.1.1.1.1); spelled = h.1 },
       λ h.
           let small = colour_small colour in

@@ -1,10 +1,10 @@
 //! The formats, read and written.
-use crate::beacon::{Told, read_beacon, write_beacon};
-use crate::lamp::{Colour, State, read_lamp, write_lamp};
-use crate::lite::{Datagram, read_lite, write_lite};
-use crate::message::{Said, Sample, read_message, write_message};
-use crate::readings::{Readings, read_log, write_log};
-use crate::vxlan::{FLAG, Header, IDENTIFIER, field_name, read_vxlan, write_vxlan};
+use narc_examples::beacon::{Told, read_beacon, write_beacon};
+use narc_examples::lamp::{Colour, State, read_lamp, write_lamp};
+use narc_examples::lite::{Datagram, read_lite, write_lite};
+use narc_examples::message::{Said, Sample, read_message, write_message};
+use narc_examples::readings::{Readings, read_log, write_log};
+use narc_examples::vxlan::{FLAG, Header, IDENTIFIER, field_name, read_vxlan, write_vxlan};
 use narc_rules::{Fault, Field, Front, Gather};
 
 /// A lit lamp in green, at 50.
