@@ -12,7 +12,7 @@ use Rattle.narc_run.specs.Job.{CaptureJob}
 use Rattle.narc_run.specs.Findings.{Told, IsEntryAnswer}
 use Rattle.narc_run.specs.Output.{record_text, capture_end}
 use Rattle.narc_run.specs.Verdict.{end_verdict, records_status}
-use Rattle.narc_run.specs.CaptureRun.{IsShown}
+use Rattle.narc_run.specs.StreamRun.{IsShown}
 
 abbrev pub told_as : Entry → Option Answer → Told
 told_as entry answer = record { entry = entry; answer = answer }

@@ -3,10 +3,9 @@ ghost use Rattle.std.specs.Prelude.{◌≡◌, ◌≤◌, ◌++◌, [], None, le
 ghost use Rattle.narc_world.specs.Outside.{CountsFaults};
 ghost use Rattle.narc_text.specs.Printing.{IsPrinted};
 ghost use Rattle.narc_run.specs.Visiting.{Finishes};
-ghost use Rattle.narc_run.specs.CaptureRun.{CaptureRun, EndsCapture, IsShown};
+ghost use Rattle.narc_run.specs.StreamRun.{EndsStream, IsShown, StreamRun};
 ghost use Rattle.narc_run.specs.Job.{Capture};
-ghost use Rattle.narc_run.specs.RightJob.{IsRightFor};
-ghost use Rattle.narc_run.specs.Run.{AreCounted};
+ghost use Rattle.narc_run.specs.Run.{AreCounted, IsRight, run_of};
 
 use crate::outcome::Outcome;
 use crate::steps::RunSteps;
@@ -63,9 +62,9 @@ fn walk<V: Visitor, S: Source, K: Sink, L: Ledger, J: Ledger>(
 ) -> Result<Outcome, Failed>
     requires room { LONGEST_RECORD ≤ length input.items }
     requires fresh { V.saw visitor.old None [] }
-    ensures run { CaptureRun (V.job visitor.old) (S.left source.old) (S.left source.new) (K.held sink.old) (K.held sink.new) steps.old steps.new result }
+    ensures run { EndsStream (Capture (V.job visitor.old)) (S.left source.old) (S.left source.new) (K.held sink.old) (K.held sink.new) steps.old steps.new result }
     ensures source_faults { CountsFaults (λ rose. IfOk result (λ outcome. outcome.status ≡ 5 → rose)) (S.faults source.old) (S.faults source.new) }
-    ensures status { IfOk result (λ outcome. (outcome.status ≡ 6 → ⊥) × (outcome.status ≤ 7)) }
+    ensures status { IfOk result (λ outcome. outcome.status ≡ 6 → ⊥) }
     ensures sink_faults { CountsFaults (OnErr result) (K.faults sink.old) (K.faults sink.new) }
 {
     let mut reader = Reader::new(input);
@@ -102,8 +101,7 @@ fn walk_to_end<V: Visitor, S: Source, K: Sink, L: Ledger, J: Ledger>(
 ) -> Outcome
     requires room { LONGEST_RECORD ≤ length input.items }
     requires fresh { V.saw visitor.old None [] }
-    ensures run { EndsCapture (V.job visitor.old) (S.left source.old) (S.left source.new) (K.held sink.old) (K.held sink.new) steps.old steps.new result }
-    ensures status { result.status ≤ 7 }
+    ensures run { StreamRun (Capture (V.job visitor.old)) (S.left source.old) (S.left source.new) (K.held sink.old) (K.held sink.new) steps.old steps.new result.status result.at }
     ensures faults { AreCounted result.status result.at (S.faults source.old) (S.faults source.new) (K.faults sink.old) (K.faults sink.new) }
 {
     match walk(visitor, input, source, sink, steps) {
@@ -121,7 +119,7 @@ pub(crate) fn run_walk<V: Visitor, S: Source, K: Sink, L: Ledger, J: Ledger>(
     steps: &mut RunSteps<L, J>,
 ) -> Outcome
     requires { V.saw visitor.old None [] }
-    ensures { IsRightFor (Some (Capture (V.job visitor.old))) (S.left source.old) (S.left source.new) (K.held sink.old) (K.held sink.new) (S.faults source.old) (S.faults source.new) (K.faults sink.old) (K.faults sink.new) steps.old steps.new result (source.new ≡ source.old) (sink.new ≡ sink.old) }
+    ensures { IsRight (run_of (Some (Capture (V.job visitor.old))) (S.left source.old) (S.left source.new) (K.held sink.old) (K.held sink.new) (S.faults source.old) (S.faults source.new) (K.faults sink.old) (K.faults sink.new) steps.old steps.new result.status result.at) (source.new ≡ source.old) (sink.new ≡ sink.old) }
 {
     match zeros(alloc, INPUT_BUFFER) {
         Ok(input) => walk_to_end(visitor, input, source, sink, steps),

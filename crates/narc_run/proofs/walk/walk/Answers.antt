@@ -9,7 +9,7 @@ use Rattle.narc_run.specs.declared.outcome.Outcome.{Outcome}
 use Rattle.narc_run.specs.Job.{CaptureJob}
 use Rattle.narc_run.specs.Output.{capture_body, header_text, record_text}
 use Rattle.narc_run.specs.Run.{WroteFront}
-use Rattle.narc_run.specs.CaptureRun.{IsShown}
+use Rattle.narc_run.specs.StreamRun.{IsShown}
 use Rattle.narc_run.specs.Verdict.{Verdict, verdict_of}
 use Rattle.narc_run.specs.Visiting.{Finishes, told_as}
 use Rattle.narc_text.proofs.Printings.{Appends-nil}
