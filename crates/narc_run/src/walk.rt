@@ -46,7 +46,7 @@ fn tell_waiting<K: Sink>(reader: &Reader, page: &mut Page, sink: &mut K) -> Resu
     ensures printed { IsPrinted result [] page.old page.new (K.held sink.old) (K.held sink.new) }
     ensures faults { CountsFaults (OnErr result) (K.faults sink.old) (K.faults sink.new) }
 {
-    if reader.is_ready() {
+    if page.is_empty() || reader.is_ready() {
         return Ok(());
     }
     page.flush(sink)
