@@ -1,5 +1,5 @@
 -- How a walk over a capture ends, by what was read, seen and printed so far.
-use Rattle.std.proofs.Common.{◌≡◌, ℕ, ◌+◌, ◌≤◌, ◌⊎◌, inl, List, [], ◌∷◌, ◌++◌, length, take, min, Option, Some, None, Result, Ok, Err, refl, sym, ap, ◌∙◌, subst, append_assoc, append-nil, arith, length-append}
+use Rattle.std.proofs.Common.{◌≡◌, ℕ, ◌+◌, ◌≤◌, ◌⊎◌, inl, inr, List, [], ◌∷◌, ◌++◌, length, take, min, Option, Some, None, Result, Ok, Err, refl, sym, ap, ◌∙◌, subst, append_assoc, append-nil, arith, length-append}
 use Rattle.std.specs.Prelude.{IsErr, IsTrue, flat_map, sum_by}
 use Rattle.std.proofs.lemmas.List.{take_at, take_min, take-append-le, flat_map_more}
 use Rattle.std.proofs.lemmas.Grind.{flat_map-append}
@@ -10,8 +10,11 @@ use Rattle.narc_world.specs.Outside.{TakesFront, IsEmptyWhereTold, Appends}
 use Rattle.narc_pcap.specs.declared.limit.TheConstants.{CAPTURE_LIMIT}
 use Rattle.narc_pcap.specs.declared.header.Header.{Header}
 use Rattle.narc_pcap.specs.declared.record.End.{End}
+use Rattle.narc_pcap.specs.declared.record.End.TheVariants.{Clean, Torn, Bad}
 use Rattle.narc_pcap.specs.Capture.{front, cut, capture, CaptureView, no_header, is_bad}
-use Rattle.narc_pcap.specs.Reading.{Reading, Holds, Exceeds, IsFresh, IsShort, taken}
+use Rattle.narc_pcap.specs.declared.reader.Next.{Next}
+use Rattle.narc_pcap.specs.declared.reader.Next.TheVariants as next
+use Rattle.narc_pcap.specs.Reading.{Reading, Holds, Exceeds, IsFresh, IsNext, IsShort, taken}
 use Rattle.narc_pcap.proofs.CaptureCuts.{cut_records}
 use Rattle.narc_text.specs.Printing.{Passes, Stops}
 use Rattle.narc_text.proofs.Printings.{Appends-append, Passes-then}
@@ -21,7 +24,7 @@ use Rattle.narc_run.specs.Findings.{Told, AreTold, frames, frame_cost}
 use Rattle.narc_run.specs.Output.{header_text, record_text, capture_body, capture_end}
 use Rattle.narc_run.specs.Verdict.{verdict_of}
 use Rattle.narc_run.specs.Run.{WroteFront}
-use Rattle.narc_run.specs.Visiting.{HasRoom, Finishes}
+use Rattle.narc_run.specs.Visiting.{HasRoom, Closes, Finishes}
 use Rattle.narc_run.specs.StreamRun.{IsShown, EndsStream, StreamRun, Stopped}
 use Rattle.narc_run.proofs.Walks.{Walks, ReadSoFar, entries_of, cost, cost-append}
 use Rattle.narc_run.proofs.Answered.{all_answered, AreTold-append}
@@ -127,7 +130,7 @@ module _ (j : CaptureJob) (Saw : Option Header → List Told → Type 0) (reader
   lines = capture_body j (Some reader.header) so_far.told
 
   -- the capture ended, or a bad place was shown
-  pub ended : Saw (Some reader.header) so_far.told → (end : End) → Holds reader now y z → front reader.header.big reader.place now.hand ≡ Err end → taken now ≤ CAPTURE_LIMIT
+  ended : Saw (Some reader.header) so_far.told → (end : End) → Holds reader now y z → front reader.header.big reader.place now.hand ≡ Err end → taken now ≤ CAPTURE_LIMIT
       → IsEmptyWhereTold z ⊎ IsTrue (is_bad end) → (r : Result Outcome Failed) → Finishes j Saw end r page b c → EndsStream (Capture j) x z a c s0 s1 r
   ended saw end holds is reach settled (Ok o) h =
       let shown = h (Some reader.header) so_far.told saw in
@@ -138,16 +141,26 @@ module _ (j : CaptureJob) (Saw : Option Header → List Told → Type 0) (reader
       (cut_page lines page (capture_end j so_far.told end) a b c printed (h (Some reader.header) so_far.told saw))
 
   -- the source failed
-  pub broke : Holds reader now y z → IsShort (front reader.header.big reader.place now.hand) → taken now ≤ CAPTURE_LIMIT
+  broke : Holds reader now y z → IsShort (front reader.header.big reader.place now.hand) → taken now ≤ CAPTURE_LIMIT
       → (r : Result Outcome Failed) → IsShown r page (verdict_of 5 (taken now)) b c → EndsStream (Capture j) x z a c s0 s1 r
   broke holds short reach (Ok o) h = broken j reader now x y z a c s0 s1 so_far holds short reach o h.0 (pushed_whole lines page a b c printed h.1)
   broke holds short reach (Err f) h = stopped_short j reader now x y z a c s0 s1 so_far holds short reach f (cut_whole lines page a b c printed h)
 
   -- the limit was passed
-  pub overran : Exceeds reader now y z → IsShort (front reader.header.big reader.place now.hand)
+  overran : Exceeds reader now y z → IsShort (front reader.header.big reader.place now.hand)
       → (r : Result Outcome Failed) → IsShown r page (verdict_of 7 CAPTURE_LIMIT) b c → EndsStream (Capture j) x z a c s0 s1 r
   overran holds short (Ok o) h = overrun j reader now x y z a c s0 s1 so_far holds short o h.0 (pushed_whole lines page a b c printed h.1)
   overran holds short (Err f) h = stopped_behind j reader now x y z a c s0 s1 so_far holds short f (cut_whole lines page a b c printed h)
+
+  -- the reader found no further record
+  pub closed : Saw (Some reader.header) so_far.told → (last : Next) → IsNext reader now y z last → taken now ≤ CAPTURE_LIMIT
+      → (r : Result Outcome Failed) → Closes j Saw last (taken now) r page b c → EndsStream (Capture j) x z a c s0 s1 r
+  closed saw (next.Rec head) found reach r h = absurd h
+  closed saw next.End found reach r h = ended saw Clean found.0 found.1 reach (inl found.2) r h
+  closed saw (next.Torn at) found reach r h = ended saw (Torn at) found.0 found.1 reach (inl found.2) r h
+  closed saw (next.Bad at) found reach r h = ended saw (Bad at) found.0 found.1 reach (inr refl) r h
+  closed saw next.ReadFault found reach r h = broke found.0 found.1 reach r h
+  closed saw next.Long found reach r h = overran found.0 found.1 r h
 
 -- the sink failed while octets are in hand: their records have answers too
 module _ (j : CaptureJob) (reader : Reading) (x y a c : Option (List ℕ)) (s0 s1 : ℕ) (so_far : ReadSoFar reader x y s0 s1) (reach : taken reader ≤ CAPTURE_LIMIT)

@@ -2,7 +2,7 @@
 ghost use Rattle.std.specs.Prelude.{◌≡◌, ◌≤◌, ◌++◌, [], None, length, IfOk, OnErr};
 ghost use Rattle.narc_world.specs.Outside.{CountsFaults};
 ghost use Rattle.narc_text.specs.Printing.{IsPrinted};
-ghost use Rattle.narc_run.specs.Visiting.{Finishes};
+ghost use Rattle.narc_run.specs.Visiting.{Closes, Ends, Finishes};
 ghost use Rattle.narc_run.specs.StreamRun.{EndsStream, IsShown, StreamRun};
 ghost use Rattle.narc_run.specs.Job.{Capture};
 ghost use Rattle.narc_run.specs.Run.{AreCounted, IsRight, run_of};
@@ -39,6 +39,30 @@ fn end_early<K: Sink>(outcome: Outcome, page: &mut Page, sink: &mut K) -> Result
 {
     page.flush(sink)?;
     Ok(outcome)
+}
+
+/// Ends a walk where so many octets were taken and no further record was read.
+fn close<V: Visitor, K: Sink>(
+    visitor: &V,
+    last: Next,
+    taken: u64,
+    page: &mut Page,
+    sink: &mut K,
+) -> Result<Outcome, Failed>
+    requires { Ends last }
+    ensures printed { Closes (V.job visitor.now) (V.saw visitor.now) last taken result page.old (K.held sink.old) (K.held sink.new) }
+    ensures status { IfOk result (λ outcome. outcome.status ≡ 6 → ⊥) }
+    ensures source { IfOk result (λ outcome. outcome.status ≡ 5 → last ≡ Next.ReadFault) }
+    ensures faults { CountsFaults (OnErr result) (K.faults sink.old) (K.faults sink.new) }
+{
+    match last {
+        Next::End => finish(visitor, End::Clean, page, sink),
+        Next::Torn(at) => finish(visitor, End::Torn(at), page, sink),
+        Next::Bad(at) => finish(visitor, End::Bad(at), page, sink),
+        Next::ReadFault => end_early(Outcome::source_fault(taken), page, sink),
+        Next::Long => end_early(Outcome::limit(), page, sink),
+        Next::Rec(_) => unreachable!(),
+    }
 }
 
 /// Pushes all that is on the page before a record that has to be pulled, so that who reads sees the lines at once.
@@ -80,13 +104,7 @@ fn walk<V: Visitor, S: Source, K: Sink, L: Ledger, J: Ledger>(
         tell_waiting(&reader, &mut page, sink)?;
         match reader.next(source) {
             Next::Rec(head) => visitor.record(&head, &mut reader, &mut page, sink, steps)?,
-            Next::End => return finish(visitor, End::Clean, &mut page, sink),
-            Next::Torn(at) => return finish(visitor, End::Torn(at), &mut page, sink),
-            Next::Bad(at) => return finish(visitor, End::Bad(at), &mut page, sink),
-            Next::ReadFault => {
-                return end_early(Outcome::source_fault(reader.taken()), &mut page, sink);
-            }
-            Next::Long => return end_early(Outcome::limit(), &mut page, sink),
+            last => return close(visitor, last, reader.taken(), &mut page, sink),
         }
     }
 }
