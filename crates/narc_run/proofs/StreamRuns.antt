@@ -10,8 +10,8 @@ use Rattle.narc_run.specs.Job.{Job}
 use Rattle.narc_run.specs.Findings.{Findings, Found, AreFindings, frames, frame_cost}
 use Rattle.narc_run.specs.Output.{body, output}
 use Rattle.narc_run.specs.Verdict.{Verdict, verdict, verdict_of, is_decided}
-use Rattle.narc_run.specs.Run.{Run, run_of, WhereTold, WroteFront, HasStatusOf, IsDone, IsMalformed, LeavesBody, LeavesFront, PassesLimit, IsRightRun, IsRight, AreCounted, most, left_for, taken, counted}
-use Rattle.narc_run.specs.StreamRun.{Takes, Overtakes, Judges, Breaks, Overruns, Stops, StopsBehind, StreamRun, Judged, Broken, Overrun, Stopped, StoppedBehind}
+use Rattle.narc_run.specs.Run.{Run, WhereTold, WroteFront, HasStatusOf, IsDone, IsMalformed, LeavesBody, LeavesFront, PassesLimit, IsRightRun, IsRight, AreCounted, most, left_for, taken, counted}
+use Rattle.narc_run.specs.StreamRun.{Takes, Overtakes, Judges, Breaks, Overruns, Stops, StopsBehind, StreamRun, Judged, Broken, Overrun, Stopped, StoppedBehind, run_of}
 use Rattle.narc_run.proofs.Jobs.{taken_is}
 
 -- what was found of octets that decide is found of all octets that they begin

@@ -11,8 +11,8 @@ use Rattle.narc_run.specs.Job.{UnreadJob, Unread, Trial, Version}
 use Rattle.narc_run.specs.Findings.{Found, frames, frame_cost}
 use Rattle.narc_run.specs.Output.{output, trial_line, version_line}
 use Rattle.narc_run.specs.Verdict.{verdict_of}
-use Rattle.narc_run.specs.Run.{WroteFront, IsRight, run_of}
-use Rattle.narc_run.specs.StreamRun.{Takes, StreamRun, Judged, Stopped}
+use Rattle.narc_run.specs.Run.{WroteFront, IsRight}
+use Rattle.narc_run.specs.StreamRun.{Takes, StreamRun, Judged, Stopped, run_of}
 use Rattle.narc_run.specs.UnreadRun.{UnreadRun, IsToldOrCut}
 use Rattle.narc_run.proofs.FrameAnswers.{no_findings}
 use Rattle.narc_run.proofs.RightJobs.{without_memory}
