@@ -1,6 +1,9 @@
 //! Tests, by what they are about.
+mod again;
 mod captures;
+mod lines;
 mod memory;
+mod reading;
 mod std_sink;
 mod std_source;
 mod texts;
