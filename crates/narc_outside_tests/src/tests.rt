@@ -3,6 +3,7 @@ mod again;
 mod captures;
 mod lines;
 mod memory;
+mod options;
 mod reading;
 mod std_sink;
 mod std_source;
