@@ -1,6 +1,10 @@
 //! Tests, by what they are about.
+mod again;
 mod captures;
+mod lines;
 mod memory;
+mod options;
+mod reading;
 mod std_sink;
 mod std_source;
 mod texts;
