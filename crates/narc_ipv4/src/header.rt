@@ -1,5 +1,5 @@
 //! The header of an IPv4 packet.
-ghost use Rattle.std.specs.Prelude.{◌≡◌, ℕ, ◌*◌, ◌-◌, ◌%◌, ◌<◌, ◌^◌};
+ghost use Rattle.std.specs.Prelude.{◌*◌, ◌-◌, ◌%◌, ◌<◌, ◌^◌};
 ghost use Rattle.narc_ipv4.specs.Header.{is_version, is_header_length, is_total_length, is_flags, header_length_of, area_length_of};
 
 use crate::as_header::{AsHeader, RawBefore};

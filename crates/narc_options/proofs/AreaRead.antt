@@ -22,14 +22,14 @@ use Rattle.narc_list.specs.Items.{InRow}
 use Rattle.narc_list.specs.Region.{region}
 use Rattle.narc_list.specs.Until.{IsEnd, AreItems, until}
 use Rattle.narc_list.specs.UntilLaws.{zero_spelled, length-filled}
-use Rattle.narc_packet.specs.Options.{IpOptionView, ip_option, IsListEnd, is_bad_option, bad_option_from, bad_option, ip_options_in, AreIpOptions}
+use Rattle.narc_packet.specs.Options.{IpOptionView, ip_option, IsListEnd, is_bad_option, bad_option, ip_options_in, AreIpOptions}
 use Rattle.narc_packet.specs.Refusal.{options_row}
 use Rattle.narc_options.specs.OptionOctets.{raw_view, IsAreaOf, IsItsArea, IsRefusedByRow}
 use Rattle.narc_options.specs.Option.{RawOption, option_fields, option_area, option_region}
 use Rattle.narc_options.specs.Laws.{option_fields_laws, option_area_laws}
 use Rattle.narc_options.proofs.OptionSound.{option_sound}
 use Rattle.narc_options.proofs.AreaSound.{area_sound}
-use Rattle.narc_options.proofs.Spellings.{spelled, AreOptions, are_options, bad_of, none_bad, bad_here, option_there, spelled_each}
+use Rattle.narc_options.proofs.Spellings.{spelled, AreOptions, are_options, none_bad, bad_behind, option_there, spelled_each}
 use Rattle.narc_options.proofs.OptionOctets.{fields_of, raw_option, fields_are_raw, view_of_fields, option_octets}
 
 -- the options that octets are
@@ -154,7 +154,7 @@ none_fails : (start : ℕ) (l x : List ℕ) → IsAreaOf l x → first_failing (
 none_fails start l x a =
     let os = ip_options_in l in
     let none : bad_option x ≡ None =
-    ap (bad_option_from 0 0) (a.joined ∙ ap (λ k. k ++ a.rest) (sym a.are.0)) ∙ bad_of os a.are.1 0 a.rest ∙ none_bad (0 + length (spelled os)) a.rest a.ended
+    ap bad_option (a.joined ∙ ap (λ k. k ++ a.rest) (sym a.are.0)) ∙ none_bad os a.rest a.are.1 a.ended
     in
     both (nat_lt 40 (length x)) (bad_option x) (le-ltb 40 (length x) a.short) none where
       both : (many : Bool) (bad : Option ℕ) → many ≡ false → bad ≡ None → first_failing (row 0 start many ∷ row 0 (start + unwrap_or bad 0) (is_some bad) ∷ []) ≡ None
@@ -194,7 +194,7 @@ fails_at start x each f (inr p) =
     let short : length x ≤ 40 = omega (arith, p.short, length-bits x) in
     let few : length back ≤ 40 = omega (arith, short, ap length here.0, length-append o back) in
     let bad = refused_bad back in_back few (λ e. p.more (subst IsEnd (sym here.1) (octets_end back e))) p.fault (subst (λ b. option_fields.refuses tt b p.fault) here.1 p.refused) in
-    let found : bad_option x ≡ Some (length o) = ap (bad_option_from 0 0) here.0 ∙ bad_of r.options r.are 0 back ∙ bad_here (0 + length o) back bad ∙ ap Some (let e : 0 + length o ≡ length o = omega arith in e) in
+    let found : bad_option x ≡ Some (length o) = ap bad_option here.0 ∙ bad_behind r.options back r.are bad in
     record {
       octet = length o;
       first = bad_told start (length o) (nat_lt 40 (length x)) (bad_option x) (le-ltb 40 (length x) short) found ∙ ap (λ n. told n (start + length o)) (sym (ap (λ (g : Fault). g.field) p.is));

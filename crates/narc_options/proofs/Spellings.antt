@@ -1,19 +1,12 @@
 -- The spellings of options, and the first bad option behind them.
-use Rattle.std.proofs.Common.{◌≡◌, ℕ, zero, suc, ◌+◌, ◌-◌, ◌<◌, ◌≤◌, true, false, ◌||◌, List, [], ◌∷◌, ◌++◌, length, take, drop, Some, None, nat_lt, if◌then◌else◌, refl, sym, ap, ◌∙◌, subst, arith, length-append, length-take, append_assoc, append-nil, take-append-drop}
+use Rattle.std.proofs.Common.{◌≡◌, ℕ, zero, suc, ◌+◌, ◌-◌, ◌<◌, ◌≤◌, true, false, ◌||◌, List, [], ◌∷◌, ◌++◌, length, take, drop, Option, Some, None, nat_lt, if◌then◌else◌, refl, sym, ap, ◌∙◌, subst, arith, length-append, length-take, append-nil, take-append-drop}
 use Rattle.std.specs.Prelude.{flat_map}
 use Rattle.std.specs.List.{AllByRecursion}
 use Rattle.std.proofs.lemmas.Bool.{le-ltb, ltb-false, or_parts, or_from}
-use Rattle.std.proofs.lemmas.List.{drop_at}
 use Rattle.narc_bits.specs.Octets.{IsOctets}
 use Rattle.narc_bits.proofs.Octets.{IsOctets-append, IsOctets-take}
-use Rattle.narc_packet.proofs.OptionLists.{ip_options_in-append}
-use Rattle.narc_packet.specs.Options.{IpOptionView, IpNop, IpOther, ip_option, IsIpOption, IsListEnd, is_bad_option, option_rest, bad_option_from, ip_options_in, AreIpOptions}
-
--- behind `skip` octets a bad option is found in what is left
-bad_behind : (skip place : ℕ) (l : List ℕ) → bad_option_from skip place l ≡ bad_option_from 0 (place + skip) (drop skip l)
-bad_behind zero place l = ap (λ p. bad_option_from 0 p l) (omega arith)
-bad_behind (suc skip) place [] = refl
-bad_behind (suc skip) place (octet ∷ l) = bad_behind skip (place + 1) l ∙ ap (λ p. bad_option_from 0 p (drop skip l)) (omega arith)
+use Rattle.narc_packet.proofs.OptionLists.{walked-append, ip_options_in-append}
+use Rattle.narc_packet.specs.Options.{IpOptionView, IpNop, IpOther, ip_option, IsIpOption, IsListEnd, is_bad_option, bad_option, option_rest, first_option, walked, ip_options_in, AreIpOptions}
 
 -- an option with its data is not bad
 other_good : (octets later : List ℕ) → (nat_lt (2 + length octets) 2 || nat_lt (2 + length (octets ++ later)) (2 + length octets)) ≡ false
@@ -21,30 +14,10 @@ other_good octets later =
     or_from (nat_lt (2 + length octets) 2) (nat_lt (2 + length (octets ++ later)) (2 + length octets))
     (le-ltb (2 + length octets) 2 (omega arith)) (le-ltb (2 + length (octets ++ later)) (2 + length octets) (omega (arith, length-append octets later)))
 
--- what is left behind the data
-beyond : (octets later : List ℕ) → drop (2 + length octets - 1) ((2 + length octets) ∷ (octets ++ later)) ≡ later
-beyond octets later =
-    let size : 2 + length octets - 1 ≡ suc (length octets) = omega arith in
-    ap (λ n. drop n ((2 + length octets) ∷ (octets ++ later))) size ∙ drop_at octets later (length octets) refl
-
 few_kinds : {A : Type 0} (kind : ℕ) → 2 ≤ kind → kind < 2 → A
 few_kinds kind h k = absurd (none h k) where
   none : 2 ≤ kind → kind < 2 → ⊥
   none h k = omega (arith, h, k)
-
--- no bad option is in it
-pub bad_more : (o : IpOptionView) → IsIpOption o → (place : ℕ) (later : List ℕ) → bad_option_from 0 place (ip_option o ++ later) ≡ bad_option_from 0 (place + length (ip_option o)) later
-bad_more IpNop h place later = refl
-bad_more (IpOther zero octets) h place later = few_kinds 0 h.least (omega arith)
-bad_more (IpOther (suc zero) octets) h place later = few_kinds 1 h.least (omega arith)
-bad_more (IpOther (suc (suc kind)) octets) h place later =
-    let n = 2 + length octets in
-    let next = bad_option_from (n - 1) (place + 1) (n ∷ (octets ++ later)) in
-    let far : place + 1 + (n - 1) ≡ place + length (suc (suc kind) ∷ n ∷ octets) = omega arith in
-    ap (λ t. if t then Some place else next) (other_good octets later)
-    ∙ bad_behind (n - 1) (place + 1) (n ∷ (octets ++ later))
-    ∙ ap (bad_option_from 0 (place + 1 + (n - 1))) (beyond octets later)
-    ∙ ap (λ p. bad_option_from 0 p later) far
 
 abbrev pub spelled : List IpOptionView → List ℕ
 spelled os = flat_map ip_option os
@@ -52,25 +25,37 @@ spelled os = flat_map ip_option os
 abbrev pub AreOptions : List IpOptionView → Type 0
 AreOptions os = AllByRecursion IsIpOption os
 
-joined_more : (o : IpOptionView) (os : List IpOptionView) (rest : List ℕ) → spelled (o ∷ os) ++ rest ≡ ip_option o ++ (spelled os ++ rest)
-joined_more o os rest = append_assoc (ip_option o) (spelled os) rest
+-- an end is left as it is, and so is a bad option
+end_left : (rest : List ℕ) → IsListEnd rest → (walked 0 rest ≡ ([], rest)) × (is_bad_option rest ≡ false)
+end_left [] h = (refl, refl)
+end_left (octet ∷ l) h = subst (λ n. (walked 0 (n ∷ l) ≡ ([], n ∷ l)) × (is_bad_option (n ∷ l) ≡ false)) (sym h) (refl, refl)
 
-pub bad_of : (os : List IpOptionView) → AreOptions os → (place : ℕ) (rest : List ℕ) → bad_option_from 0 place (spelled os ++ rest) ≡ bad_option_from 0 (place + length (spelled os)) rest
-bad_of [] h place rest = ap (λ p. bad_option_from 0 p rest) (omega arith)
-bad_of (o ∷ os) h place rest =
-    let far : place + length (ip_option o) + length (spelled os) ≡ place + length (spelled (o ∷ os)) = omega (arith, length-append (ip_option o) (spelled os)) in
-    ap (bad_option_from 0 place) (joined_more o os rest) ∙ bad_more o h.0 place (spelled os ++ rest) ∙ bad_of os h.1 (place + length (ip_option o)) rest ∙ ap (λ p. bad_option_from 0 p rest) far
+bad_left : (x : List ℕ) → is_bad_option x ≡ true → walked 0 x ≡ ([], x)
+bad_left [] h = cc
+bad_left (zero ∷ l) h = cc
+bad_left (suc octet ∷ l) h =
+    let next = walked (option_rest (suc octet ∷ l)) l in
+    ap (λ t. if t then ([], suc octet ∷ l) else (first_option (suc octet ∷ l) ∷ next.0, next.1)) h
 
--- none is bad in an end
-pub none_bad : (place : ℕ) (rest : List ℕ) → IsListEnd rest → bad_option_from 0 place rest ≡ None
-none_bad place [] h = refl
-none_bad place (octet ∷ l) h = ap (λ n. bad_option_from 0 place (n ∷ l)) h
+-- what is left behind options that stand in front of it
+left_behind : (os : List IpOptionView) (rest : List ℕ) → AreOptions os → walked 0 rest ≡ ([], rest) → (walked 0 (spelled os ++ rest)).1 ≡ rest
+left_behind os rest h left = ap (λ w. w.1) (walked-append os rest h) ∙ ap (λ w. w.1) left
 
--- a bad option in front is the first
-pub bad_here : (place : ℕ) (x : List ℕ) → is_bad_option x ≡ true → bad_option_from 0 place x ≡ Some place
-bad_here place [] h = cc
-bad_here place (zero ∷ l) h = cc
-bad_here place (suc octet ∷ l) h = ap (λ t. if t then Some place else bad_option_from (option_rest (suc octet ∷ l)) (place + 1) l) h
+abbrev place_of : (area rest : List ℕ) → Option ℕ
+place_of area rest = if is_bad_option rest then Some (length area - length rest) else None
+
+-- none is bad in front of an end
+pub none_bad : (os : List IpOptionView) (rest : List ℕ) → AreOptions os → IsListEnd rest → bad_option (spelled os ++ rest) ≡ None
+none_bad os rest h ended =
+    let area = spelled os ++ rest in
+    let e = end_left rest ended in
+    ap (place_of area) (left_behind os rest h e.0) ∙ ap (λ b. if b then Some (length area - length rest) else None) e.1
+
+-- a bad option behind options is the first
+pub bad_behind : (os : List IpOptionView) (x : List ℕ) → AreOptions os → is_bad_option x ≡ true → bad_option (spelled os ++ x) ≡ Some (length (spelled os))
+bad_behind os x h bad =
+    let area = spelled os ++ x in
+    ap (place_of area) (left_behind os x h (bad_left x bad)) ∙ ap (λ b. if b then Some (length area - length x) else None) bad ∙ ap Some {y = length (spelled os)} (omega (arith, length-append (spelled os) x))
 
 -- the octets of options are read as these
 pub options_again : (os : List IpOptionView) → AreOptions os → ip_options_in (spelled os) ≡ os

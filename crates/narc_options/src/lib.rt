@@ -13,7 +13,7 @@ pub use laws::{
     option_region_is_sound, tcp_option_is_its_octets,
 };
 pub use option::{
-    ByKind, Data, DataOf, IsKind, IsOptionLength, Kind, KindOf, Length,
-    Nothing, OptionFields, RawOption,
+    ByKind, Data, DataOf, IsKind, IsOptionLength, Kind, KindOf, Length, Nothing, OptionFields,
+    RawOption,
 };
 pub use part::OptionAreaPart;

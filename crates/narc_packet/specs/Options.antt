@@ -129,34 +129,29 @@ abbrev pub option_rest : List ℕ → ℕ
 option_rest (suc (suc kind) ∷ len ∷ l) = len - 1
 option_rest l = 0
 
--- the place of the first bad option in the area: behind skip octets of an option the next one begins
-abbrev pub bad_option_from : (skip place : ℕ) → List ℕ → Option ℕ
-bad_option_from skip place [] = None
-bad_option_from (suc skip) place (octet ∷ l) = bad_option_from skip (place + 1) l
-bad_option_from zero place (zero ∷ l) = None
-bad_option_from zero place (suc octet ∷ l) =
-    let next = bad_option_from (option_rest (suc octet ∷ l)) (place + 1) l in
-    if is_bad_option (suc octet ∷ l) then Some place else next
-
-abbrev pub bad_option : List ℕ → Option ℕ
-bad_option area = bad_option_from 0 0 area
-
 -- the option in front, where it is none that is bad and no end
 abbrev pub first_option : List ℕ → IpOptionView
 first_option (suc (suc kind) ∷ len ∷ l) = IpOther (suc (suc kind)) (take (len - 2) l)
 first_option l = IpNop
 
--- the options in order, up to an end, or to what is no option
-abbrev pub options_from : (skip : ℕ) → List ℕ → List IpOptionView
-options_from skip [] = []
-options_from (suc skip) (octet ∷ l) = options_from skip l
-options_from zero (zero ∷ l) = []
-options_from zero (suc octet ∷ l) =
-    let next = options_from (option_rest (suc octet ∷ l)) l in
-    if is_bad_option (suc octet ∷ l) then [] else first_option (suc octet ∷ l) ∷ next
+-- The options in order, and what is left behind them: nothing, an end of the list, or what begins with a bad option. Behind
+-- skip octets of an option the next one begins.
+abbrev pub walked : (skip : ℕ) → List ℕ → List IpOptionView × List ℕ
+walked skip [] = ([], [])
+walked (suc skip) (octet ∷ l) = walked skip l
+walked zero (zero ∷ l) = ([], zero ∷ l)
+walked zero (suc octet ∷ l) =
+    let next = walked (option_rest (suc octet ∷ l)) l in
+    if is_bad_option (suc octet ∷ l) then ([], suc octet ∷ l) else (first_option (suc octet ∷ l) ∷ next.0, next.1)
 
 abbrev pub ip_options_in : List ℕ → List IpOptionView
-ip_options_in spelled = options_from 0 spelled
+ip_options_in spelled = (walked 0 spelled).0
+
+-- the place of the first bad option in the area
+abbrev pub bad_option : List ℕ → Option ℕ
+bad_option area =
+    let rest = (walked 0 area).1 in
+    if is_bad_option rest then Some (length area - length rest) else None
 
 -- the whole blocks in octets, in order
 abbrev pub sack_blocks_in : List ℕ → List SackBlock
@@ -182,7 +177,7 @@ tcp_option_of IpNop = TcpNop
 tcp_option_of (IpOther kind octets) = typed_option (tcp_option_type kind (length octets)) kind octets
 
 abbrev pub tcp_options_in : List ℕ → List TcpOptionView
-tcp_options_in spelled = map tcp_option_of (options_from 0 spelled)
+tcp_options_in spelled = map tcp_option_of (ip_options_in spelled)
 
 -- the octets are the spellings of the options in them, and nothing else
 abbrev pub AreIpOptions : List ℕ → Type 0

@@ -1,5 +1,5 @@
 //! Lists of options, by which packets are built.
-ghost use Rattle.std.specs.Prelude.{◌≡◌, ◌↔◌, ◌+◌, ◌<◌, ◌≤◌, ◌++◌, ◌∷◌, [], length, flat_map, IsOk, OnOk, OnErr, Err};
+ghost use Rattle.std.specs.Prelude.{◌≡◌, ◌↔◌, ◌+◌, ◌<◌, ◌≤◌, ◌++◌, ◌∷◌, [], length, IsOk, OnOk, OnErr, Err};
 ghost use Rattle.narc_packet.specs.Options.{ip_option, tcp_option, IsIpOption, IsTcpOption, AreIpOptions, AreTcpOptions, ip_options_in, tcp_options_in, tcp_option_of};
 ghost use Rattle.narc_packet.specs.WellFormed.{FitArea};
 ghost use Rattle.narc_packet.specs.PacketView.{ip_option_view, tcp_option_view};

@@ -1,7 +1,7 @@
 //! Which packets have a frame.
 ghost use Rattle.std.specs.Prelude.{◌≡◌, ◌↔◌, ◌≤◌, ◌+◌, IsTrue, length, flat_map};
-ghost use Rattle.narc_packet.specs.PacketView.{view, udp_view, tcp_view, ip_body_view, ipv4_view, eth_body_view};
-ghost use Rattle.narc_packet.specs.Ranges.{IsMac, IsIp, IsArpInRange, IsUdpInRange, IsTcpInRange};
+ghost use Rattle.narc_packet.specs.PacketView.{view, tcp_view, ip_body_view, ipv4_view, eth_body_view};
+ghost use Rattle.narc_packet.specs.Ranges.{IsTcpInRange};
 ghost use Rattle.narc_packet.specs.Options.{ip_option, tcp_option, IsIpOption, IsTcpOption, AreIpOptions, AreTcpOptions, ip_options_in, tcp_options_in, ip_area, filled};
 ghost use Rattle.narc_packet.specs.Ipv4.{IsIpv4InRange, MayHaveBody, is_fragment};
 ghost use Rattle.narc_packet.specs.WellFormed.{FitArea, IsWellFormedIpBody, smallest_length, IsWellFormedIpv4, IsWellFormedEthBody, IsWellFormed, SpellsIpBody, SpellsIpv4, SpellsEthBody, SpellsOptions};

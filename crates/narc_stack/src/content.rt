@@ -1,5 +1,4 @@
 //! The data of an IPv4 packet.
-ghost use Rattle.std.specs.Prelude.{◌≡◌, ℕ};
 ghost use Rattle.narc_stack.specs.Content.{by_udp, by_tcp, IsContentContext};
 
 use narc_compose::{Either, Parted, Pick, Union};

@@ -1,5 +1,5 @@
 //! Reading whole frames.
-ghost use Rattle.std.specs.Prelude.{◌≡◌, ◌+◌, ◌*◌, ◌≤◌, IfOk, length};
+ghost use Rattle.std.specs.Prelude.{◌+◌, ◌*◌, ◌≤◌, IfOk, length};
 ghost use Rattle.narc_packet.specs.Answer.{IsAnswer, IsOnlyAnswer};
 ghost use Rattle.narc_packet.specs.PacketView.{view};
 ghost use Rattle.narc_packet.specs.WellFormed.{IsWellFormed, SpellsOptions};

@@ -1,7 +1,6 @@
 //! IPv4 packets.
-ghost use Rattle.std.specs.Prelude.{◌≡◌, ℕ, ◌-◌, ◌<◌, ◌^◌};
+ghost use Rattle.std.specs.Prelude.{◌≡◌, ◌-◌, ◌<◌, ◌^◌};
 ghost use Rattle.narc_packet.specs.declared.limits.TheConstants.{MAX_LENGTH};
-ghost use Rattle.narc_stack.specs.Content.{IsContentContext};
 ghost use Rattle.narc_stack.specs.Ipv4.{context_of, zeros_of, IsPadded};
 
 use crate::as_ipv4::AsIpv4;

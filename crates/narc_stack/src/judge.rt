@@ -1,5 +1,5 @@
 //! Judging whole frames.
-ghost use Rattle.std.specs.Prelude.{◌≡◌, ◌+◌, ◌*◌, ◌≤◌, length};
+ghost use Rattle.std.specs.Prelude.{◌+◌, ◌*◌, ◌≤◌, length};
 ghost use Rattle.narc_stack.specs.Judgement.{IsOnlyJudgement};
 
 use crate::decode::decode_frame;

@@ -1,5 +1,5 @@
 //! TCP segments.
-ghost use Rattle.std.specs.Prelude.{◌≡◌, ℕ, ◌-◌, ◌<◌, ◌^◌};
+ghost use Rattle.std.specs.Prelude.{◌-◌, ◌<◌};
 ghost use Rattle.narc_transport.specs.Context.{IsThere};
 ghost use Rattle.narc_transport.specs.Tcp.{tcp_pseudo_of, tcp_area_length};
 

@@ -1,5 +1,4 @@
 //! The first 16 octets of a TCP segment.
-ghost use Rattle.std.specs.Prelude.{◌≡◌};
 ghost use Rattle.narc_transport.specs.Tcp.{is_offset};
 
 use narc_compose::{ForFirst, ForSecond, Named, Seq, Then};

@@ -1,5 +1,5 @@
 //! UDP datagrams.
-ghost use Rattle.std.specs.Prelude.{◌≡◌, ℕ, ◌-◌, ◌<◌, ◌^◌};
+ghost use Rattle.std.specs.Prelude.{◌-◌, ◌<◌};
 ghost use Rattle.narc_transport.specs.Context.{IsThere};
 ghost use Rattle.narc_transport.specs.Udp.{udp_pseudo_of};
 

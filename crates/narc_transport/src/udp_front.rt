@@ -1,5 +1,4 @@
 //! The first 6 octets of a UDP datagram.
-ghost use Rattle.std.specs.Prelude.{◌≡◌};
 ghost use Rattle.narc_transport.specs.Udp.{is_udp_length};
 
 use narc_compose::{ForSecond, Named, Seq, Then};

@@ -1,6 +1,5 @@
 //! What made packets carry.
-ghost use Rattle.std.specs.Prelude.{◌≡◌, ◌∷◌, ◌+◌, ◌%◌};
-ghost use Rattle.narc_bits.specs.Octets.{big_endian};
+ghost use Rattle.std.specs.Prelude.{◌≡◌, ◌+◌, ◌%◌};
 ghost use Rattle.narc_packet.specs.PacketView.{udp_view, tcp_view, ip_body_view, ipv4_view, eth_body_view};
 ghost use Rattle.narc_packet.specs.Options.{AreTcpOptions};
 ghost use Rattle.narc_packet.specs.WellFormed.{SpellsIpBody, SpellsIpv4, SpellsEthBody};

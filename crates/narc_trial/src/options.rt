@@ -1,6 +1,5 @@
 //! The options of made packets, as the octets that spell them.
-ghost use Rattle.std.specs.Prelude.{◌≡◌, ◌∷◌, ◌++◌, [], length};
-ghost use Rattle.narc_bits.specs.Octets.{big_endian};
+ghost use Rattle.std.specs.Prelude.{◌≡◌};
 ghost use Rattle.narc_packet.specs.Options.{AreIpOptions, AreTcpOptions, ip_options_in, tcp_options_in};
 ghost use Rattle.narc_trial.specs.Made.{ip_options, segment_size_octets, tcp_options};
 

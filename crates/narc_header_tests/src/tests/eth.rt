@@ -1,8 +1,8 @@
 //! The formats of Ethernet, written out and read.
 use super::write;
 use narc_bits::Cursor;
-use narc_compose::{Named, NoContext, Seq, Strip};
-use narc_eth::{ArpFormat, AsArp, EthHead, arp_format_is_sound, eth_head_is_sound};
+use narc_compose::{Named, NoContext, PartedFormat, Seq, Strip};
+use narc_eth::{ArpFormat, ArpPart, AsArp, EthHead, arp_format_is_sound, eth_head_is_sound};
 use narc_format::{Front, read_front};
 use narc_packet::{Arp, field};
 use narc_samples::{ARP_REQUEST, are_one};
@@ -83,10 +83,10 @@ fn an_arp_packet_is_read_and_written(rt: HostRuntime) {
         target_ip: [10, 0, 0, 2],
     };
     let mut room = [0xff; 28];
-    assert!(rt; write::<Cursor<'_>, ArpFormat>((), &arp, &mut room) == 8 * 28);
+    assert!(rt; write::<Cursor<'_>, PartedFormat<ArpPart>>((), &arp, &mut room) == 8 * 28);
     assert!(rt; room[..] == ARP_REQUEST[14..42]);
     assert!(rt;
-        read_front::<ArpFormat>((), &ARP_REQUEST[14..42])
+        read_front::<PartedFormat<ArpPart>>((), &ARP_REQUEST[14..42])
             == Ok(Front {
                 value: arp,
                 bits: 8 * 28

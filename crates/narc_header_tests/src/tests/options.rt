@@ -7,9 +7,8 @@ use narc_compose::{Either, Measured, Parted, Seq, Union};
 use narc_format::{Fault, read_front};
 use narc_list::{Bytes, Pad, Region, Until};
 use narc_options::{
-    ByKind, DataOf, IsKind, IsOptionLength, KindOf, OptionArea,
-    OptionAreaPart, OptionFields, OptionRegion, RawOption, option_fields_are_sound,
-    option_region_is_sound,
+    ByKind, DataOf, IsKind, IsOptionLength, KindOf, OptionArea, OptionAreaPart, OptionFields,
+    OptionRegion, RawOption, option_fields_are_sound, option_region_is_sound,
 };
 use narc_rules::{AnyNumber, AsMany};
 use narc_samples::are_one;

@@ -38,6 +38,19 @@ fn options_of_ipv4_are_listed_in_order(rt: HostRuntime) {
     assert!(rt; options.next().is_none());
 }
 
+/// Whether this is an option without a value of its own, of this kind and with this data.
+fn is_other(option: Option<TcpOption<'_>>, kind: u8, data: &[u8]) -> bool {
+    match option {
+        Some(
+            TcpOption::Other {
+                kind: found,
+                data: octets,
+            },
+        ) => found == kind && octets == data,
+        _ => false,
+    }
+}
+
 #[test]
 fn options_of_tcp_are_listed_in_order(rt: HostRuntime) {
     let mut options = TcpOptions {
@@ -45,10 +58,10 @@ fn options_of_tcp_are_listed_in_order(rt: HostRuntime) {
     }
     .iter();
     assert!(rt; matches!(options.next(), Some(TcpOption::Mss(1460))));
-    let Some(TcpOption::Other { kind, data }) = options.next() else {
-        panic!(rt; "one octet of data is no size");
-    };
-    assert!(rt; kind == 2 && data == [9].as_slice());
+    assert!(rt;
+        is_other(options.next(), 2, &[9]),
+        "one octet of data is no size"
+    );
     assert!(rt; options.next().is_none());
 }
 
@@ -62,18 +75,24 @@ fn options_of_tcp_have_values_of_their_own(rt: HostRuntime) {
     .iter();
     assert!(rt; matches!(options.next(), Some(TcpOption::Scale(7))));
     assert!(rt; matches!(options.next(), Some(TcpOption::SackOk)));
-    let Some(TcpOption::Times { value, echo }) = options.next() else {
-        panic!(rt; "eight octets are two clocks");
-    };
-    assert!(rt; value == 1 && echo == 256);
-    let Some(TcpOption::Other { kind, data }) = options.next() else {
-        panic!(rt; "one octet of data is no block");
-    };
-    assert!(rt; kind == 5 && data == [9].as_slice());
-    let Some(TcpOption::Other { kind, data }) = options.next() else {
-        panic!(rt; "leave to acknowledge selectively has no data");
-    };
-    assert!(rt; kind == 4 && data == [9].as_slice());
+    let clocks = options.next();
+    assert!(rt;
+        matches!(
+            clocks,
+            Some(TcpOption::Times {
+                value: 1,
+                echo: 256
+            })
+        )
+    );
+    assert!(rt;
+        is_other(options.next(), 5, &[9]),
+        "one octet of data is no block"
+    );
+    assert!(rt;
+        is_other(options.next(), 4, &[9]),
+        "leave to acknowledge selectively has no data"
+    );
     assert!(rt; options.next().is_none());
 }
 

@@ -1,5 +1,4 @@
 //! Frames that end early, octet by octet.
-ghost use Rattle.std.specs.Prelude.{◌≤◌};
 
 use super::{SEGMENT, refuses};
 use narc_packet::field;

@@ -1,5 +1,5 @@
 //! Frames and the packets that they are frames of.
-ghost use Rattle.std.specs.Prelude.{◌≡◌, ◌≤◌, length};
+ghost use Rattle.std.specs.Prelude.{◌≤◌, length};
 
 use super::{
     SEGMENT, connection_request, datagram, datagram_with, ipv4_of, is_frame_of, packet_of, refuses,
