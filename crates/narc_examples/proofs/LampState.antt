@@ -24,6 +24,10 @@ use Rattle.narc_examples.specs.declared.lamp.Colour.{Colour}
 use Rattle.narc_examples.specs.declared.lamp.Colour.TheVariants.{Red, Green}
 use Rattle.narc_examples.specs.Lamp.{colour_number}
 
+-- each lamp is of this version
+abbrev pub version : ℕ
+version = 2
+
 abbrev is_percent : Unit {0} → ℕ → Bool
 is_percent c value = nat_lt value 101
 
@@ -40,12 +44,12 @@ abbrev behind : Meaning (Unit {0}) (Bool × (Colour × ℕ))
 behind = both flag shown
 
 abbrev pub lamp : Meaning (Unit {0}) (Unit {0} × (Bool × (Colour × ℕ)))
-lamp = both (constant 4 2) behind
+lamp = both (constant 4 version) behind
 
 pub lamp_spelled : IsSpelled lamp
     (λ v. Unit {0} × (Unit {0} × (((colour_number v.1.1.0 < 2 ^ 64) × (colour_number v.1.1.0 < 2 ^ 3)) × ((v.1.1.1 < 2 ^ 8) × IsTrue (is_percent tt v.1.1.1)))))
-    (λ v. bits_of_number 4 2 ++ ((v.1.0 ∷ []) ++ (bits_of_number 3 (colour_number v.1.1.0) ++ bits_of_number 8 v.1.1.1)))
-lamp_spelled = then_spelled (constant_spelled 4 2) (then_spelled flag_spelled (then_spelled (name_spelled (word_spelled 3) colour_number) (tested_spelled (word_spelled 8) is_percent)))
+    (λ v. bits_of_number 4 version ++ ((v.1.0 ∷ []) ++ (bits_of_number 3 (colour_number v.1.1.0) ++ bits_of_number 8 v.1.1.1)))
+lamp_spelled = then_spelled (constant_spelled 4 version) (then_spelled flag_spelled (then_spelled (name_spelled (word_spelled 3) colour_number) (tested_spelled (word_spelled 8) is_percent)))
 
 colour_laws : Laws colour
 colour_laws =
@@ -62,14 +66,14 @@ behind_laws : Laws behind
 behind_laws = both_laws flag shown flag_laws shown_laws
 
 pub lamp_laws : Laws lamp
-lamp_laws = both_laws (constant 4 2) behind (constant_laws 4 2) behind_laws
+lamp_laws = both_laws (constant 4 version) behind (constant_laws 4 version) behind_laws
 
 -- the parts' widths, in order
 pub lamp_is_wide : IsWide lamp 16
 lamp_is_wide =
     let least = seq_is_wide _ _ _ colour brightness colour_laws brightness_laws 3 8 (enumerated_is_wide colour_number (word 3) 3 (word_is_wide 3)) (tested_is_wide is_percent (word 8) 8 (word_is_wide 8)) in
     let later = seq_is_wide _ _ _ flag shown flag_laws shown_laws 1 11 flag_is_wide least in
-    seq_is_wide _ _ _ (constant 4 2) behind (constant_laws 4 2) behind_laws 4 12 (constant_is_wide 4 2) later
+    seq_is_wide _ _ _ (constant 4 version) behind (constant_laws 4 version) behind_laws 4 12 (constant_is_wide 4 version) later
 
 pub lamp_sound : lamp.sound
 unfolding seq constant flag enumerated tested word

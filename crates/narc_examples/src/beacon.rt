@@ -1,6 +1,4 @@
 //! A lamp that tells its name, with a checksum.
-#![tactic(auto, using(narc_rules::proofs::SizedBytes::sized_bytes_sound), unfolding(narc_rules::specs::Meanings::all_octets, narc_rules::specs::Meanings::checked, narc_rules::specs::Meanings::constant, narc_rules::specs::Meanings::flag, narc_rules::specs::Meanings::gapped, narc_rules::specs::Meanings::measured, narc_rules::specs::Meanings::enumerated, narc_rules::specs::Meanings::region, narc_rules::specs::Meanings::seq, narc_rules::specs::Meanings::tested, narc_rules::specs::Meanings::word))]
-
 ghost use Rattle.std.specs.Prelude.{◌≡◌, ◌*◌, ◌≤◌, length};
 ghost use Rattle.narc_rules.specs.Bits.{bits, overlay};
 ghost use Rattle.narc_rules.specs.Answer.{IsFrontAnswer};

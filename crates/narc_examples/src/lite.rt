@@ -1,6 +1,4 @@
 //! A datagram whose checksum covers a part of it, after UDP-Lite (RFC 3828, section 3.1).
-#![tactic(auto, using(narc_rules::proofs::SizedBytes::sized_bytes_sound), unfolding(narc_rules::specs::Meanings::all_octets, narc_rules::specs::Meanings::checked, narc_rules::specs::Meanings::gapped, narc_rules::specs::Meanings::measured, narc_rules::specs::Meanings::region, narc_rules::specs::Meanings::seq, narc_rules::specs::Meanings::seq_tail, narc_rules::specs::Meanings::tested, narc_rules::specs::Meanings::word))]
-
 ghost use Rattle.std.specs.Prelude.{◌≡◌, ◌*◌, ◌-◌, ◌≤◌, length, nat_le};
 ghost use Rattle.narc_rules.specs.Bits.{bits, overlay};
 ghost use Rattle.narc_rules.specs.Answer.{IsAllAnswer};

@@ -111,17 +111,29 @@ type Pair = Region<Bytes, Two>;
 
 type Area<'a> = Region<Until<'a, Where<Word<8>, IsLetter>, 2, Two>, Two>;
 
+fn read_gap(octets: &[u8]) -> Result<Front<u64>, Fault>
+    requires { length octets.now ≤ MAX_FRAME }
+{
+    read_front::<Port>((), octets)
+}
+
+fn read_pair<'a>(octets: &'a [u8]) -> Result<Front<&'a [u8]>, Fault>
+    requires { length octets.now ≤ MAX_FRAME }
+{
+    read_front::<Pair>((), octets)
+}
+
 #[test]
 fn a_gap_holds_any_bits_and_is_written_as_0(rt: HostRuntime) {
-    let port = read_front::<Port>((), &[0, 80, 7, 8, 9]);
+    let port = read_gap(&[0, 80, 7, 8, 9]);
     assert!(rt;
         port == Ok(Front {
             value: 80,
             bits: 32
         })
     );
-    assert!(rt; read_front::<Port>((), &[0, 80, 0, 0]) == port);
-    assert!(rt; read_front::<Port>((), &[0, 80, 7]) == Err(Fault::unnamed().later_by(16)));
+    assert!(rt; read_gap(&[0, 80, 0, 0]) == port);
+    assert!(rt; read_gap(&[0, 80, 7]) == Err(Fault::unnamed().later_by(16)));
     let mut room = [0xff; 5];
     assert!(rt; write::<Cursor<'_>, Port>((), &80, &mut room) == (32, 32));
     assert!(rt; room == [0, 80, 0, 0, 0xff]);
@@ -137,14 +149,14 @@ fn a_measured_tail_is_read_in_the_context_of_its_octets(rt: HostRuntime) {
 
 #[test]
 fn a_region_is_just_its_octets(rt: HostRuntime) {
-    let pair = read_front::<Pair>((), &[7, 8, 9]);
+    let pair = read_pair(&[7, 8, 9]);
     assert!(rt;
         pair == Ok(Front {
             value: [7, 8].as_slice(),
             bits: 16
         })
     );
-    assert!(rt; read_front::<Pair>((), &[7]) == Err(Fault::unnamed()));
+    assert!(rt; read_pair(&[7]) == Err(Fault::unnamed()));
     let mut room = [0xff; 3];
     assert!(rt; write::<Cursor<'_>, Pair>((), &[7, 8].as_slice(), &mut room) == (16, 16));
     assert!(rt; room == [7, 8, 0xff]);
@@ -182,9 +194,15 @@ fn an_area_ends_at_an_octet_0(rt: HostRuntime) {
     assert!(rt; room == [97, 0, 0xff]);
 }
 
+fn read_twins(octets: &[u8]) -> Result<Front<Few>, Fault>
+    requires { length octets.now ≤ MAX_FRAME }
+{
+    read_front::<Twins>((), octets)
+}
+
 #[test]
 fn items_are_counted(rt: HostRuntime) {
-    match read_front::<Twins>((), &[7, 8, 9]) {
+    match read_twins(&[7, 8, 9]) {
         Ok(twins) => {
             assert!(rt; twins.bits == 16);
             assert!(rt; twins.value.len() == 2);
@@ -192,7 +210,7 @@ fn items_are_counted(rt: HostRuntime) {
         }
         Err(_) => assert!(rt; false, "two items are there"),
     }
-    assert!(rt; read_front::<Twins>((), &[7]).err() == Some(Fault::unnamed().later_by(8)));
+    assert!(rt; read_twins(&[7]).err() == Some(Fault::unnamed().later_by(8)));
     let mut few = Few::empty();
     few.push(7);
     few.push(8);

@@ -117,72 +117,105 @@ fn a_word_crosses_octets(rt: HostRuntime) {
     assert!(rt; copy::<_, Word<4>>(&rt, (), &mut cursor, &mut room) == Err(Fault::unnamed()));
 }
 
-#[test]
 #[tactic(auto, unfolding(narc_scalar::specs::Constant::constant))]
+fn copy_constant(rt: &impl Abort, cursor: &mut Cursor<'_>, room: &mut [u8]) -> Result<(), Fault>
+    requires enough { length room.old ≡ 8 }
+{
+    copy::<_, Const<4, 5>>(rt, (), cursor, room)
+}
+
+#[tactic(auto, unfolding(narc_scalar::specs::Flag::flag))]
+fn copy_flag(rt: &impl Abort, cursor: &mut Cursor<'_>, room: &mut [u8]) -> Result<bool, Fault>
+    requires enough { length room.old ≡ 8 }
+{
+    copy::<_, Flag>(rt, (), cursor, room)
+}
+
+#[tactic(auto, unfolding(narc_scalar::specs::Octets::fixed_octets))]
+fn copy_octets6(rt: &impl Abort, cursor: &mut Cursor<'_>, room: &mut [u8]) -> Result<[u8; 6], Fault>
+    requires enough { length room.old ≡ 8 }
+{
+    copy::<_, Octets6>(rt, (), cursor, room)
+}
+
+#[tactic(auto, unfolding(narc_scalar::specs::Octets::fixed_octets))]
+fn copy_octets4(rt: &impl Abort, cursor: &mut Cursor<'_>, room: &mut [u8]) -> Result<[u8; 4], Fault>
+    requires enough { length room.old ≡ 8 }
+{
+    copy::<_, Octets4>(rt, (), cursor, room)
+}
+
+#[tactic(auto, unfolding(narc_scalar::specs::Tested::tested, narc_scalar::specs::Word::word))]
+fn copy_below_ten(rt: &impl Abort, cursor: &mut Cursor<'_>, room: &mut [u8]) -> Result<u64, Fault>
+    requires enough { length room.old ≡ 8 }
+{
+    copy::<_, Where<Word<4>, IsBelow>>(rt, 10, cursor, room)
+}
+
+#[tactic(auto, unfolding(narc_scalar::specs::Names::enumerated, narc_scalar::specs::Word::word))]
+fn copy_colour(rt: &impl Abort, cursor: &mut Cursor<'_>, room: &mut [u8]) -> Result<Colour, Fault>
+    requires enough { length room.old ≡ 8 }
+{
+    copy::<_, EnumOf<Word<2>, Colours>>(rt, (), cursor, room)
+}
+
+#[test]
 fn a_constant_has_no_other_bits(rt: HostRuntime) {
     let mut cursor = Cursor::new(&[0b0101_0100]);
     let mut room = [0xff; 8];
-    assert!(rt; copy::<_, Const<4, 5>>(&rt, (), &mut cursor, &mut room) == Ok(()));
+    assert!(rt; copy_constant(&rt, &mut cursor, &mut room) == Ok(()));
     assert!(rt; room == [0b0101_1111, 0xff, 0xff, 0xff, 0xff, 0xff, 0xff, 0xff]);
-    assert!(rt; copy::<_, Const<4, 5>>(&rt, (), &mut cursor, &mut room) == Err(Fault::unnamed()));
-    assert!(rt; copy::<_, Const<4, 5>>(&rt, (), &mut cursor, &mut room) == Err(Fault::unnamed()));
+    assert!(rt; copy_constant(&rt, &mut cursor, &mut room) == Err(Fault::unnamed()));
+    assert!(rt; copy_constant(&rt, &mut cursor, &mut room) == Err(Fault::unnamed()));
 }
 
 #[test]
-#[tactic(auto, unfolding(narc_scalar::specs::Flag::flag))]
 fn a_flag_is_one_bit(rt: HostRuntime) {
     let mut cursor = Cursor::new(&[0b1000_0000]);
     let mut room = [0; 8];
-    assert!(rt; copy::<_, Flag>(&rt, (), &mut cursor, &mut room) == Ok(true));
+    assert!(rt; copy_flag(&rt, &mut cursor, &mut room) == Ok(true));
     assert!(rt; room == [0b1000_0000, 0, 0, 0, 0, 0, 0, 0]);
-    assert!(rt; copy::<_, Flag>(&rt, (), &mut cursor, &mut room) == Ok(false));
+    assert!(rt; copy_flag(&rt, &mut cursor, &mut room) == Ok(false));
     assert!(rt; room == [0; 8]);
     let mut cursor = Cursor::new(&[]);
-    assert!(rt; copy::<_, Flag>(&rt, (), &mut cursor, &mut room) == Err(Fault::unnamed()));
+    assert!(rt; copy_flag(&rt, &mut cursor, &mut room) == Err(Fault::unnamed()));
 }
 
 #[test]
-#[tactic(auto, unfolding(narc_scalar::specs::Octets::fixed_octets))]
 fn octets_keep_their_order(rt: HostRuntime) {
     let mut cursor = Cursor::new(&[2, 0, 0, 0, 0, 1, 192, 0, 2, 1, 9, 9, 9]);
     let mut room = [0xff; 8];
-    assert!(rt; copy::<_, Octets6>(&rt, (), &mut cursor, &mut room) == Ok([2, 0, 0, 0, 0, 1]));
+    assert!(rt; copy_octets6(&rt, &mut cursor, &mut room) == Ok([2, 0, 0, 0, 0, 1]));
     assert!(rt; room == [2, 0, 0, 0, 0, 1, 0xff, 0xff]);
-    assert!(rt; copy::<_, Octets4>(&rt, (), &mut cursor, &mut room) == Ok([192, 0, 2, 1]));
+    assert!(rt; copy_octets4(&rt, &mut cursor, &mut room) == Ok([192, 0, 2, 1]));
     assert!(rt; room == [192, 0, 2, 1, 0, 1, 0xff, 0xff]);
-    assert!(rt; copy::<_, Octets6>(&rt, (), &mut cursor, &mut room) == Err(Fault::unnamed()));
+    assert!(rt; copy_octets6(&rt, &mut cursor, &mut room) == Err(Fault::unnamed()));
     let mut cursor = Cursor::new(&[192, 0, 2]);
-    assert!(rt; copy::<_, Octets4>(&rt, (), &mut cursor, &mut room) == Err(Fault::unnamed()));
+    assert!(rt; copy_octets4(&rt, &mut cursor, &mut room) == Err(Fault::unnamed()));
 }
 
 #[test]
-#[tactic(auto, unfolding(narc_scalar::specs::Tested::tested, narc_scalar::specs::Word::word))]
 fn a_value_that_fails_the_test_is_refused(rt: HostRuntime) {
     let mut cursor = Cursor::new(&[0b0101_1100]);
     let mut room = [0xff; 8];
-    assert!(rt; copy::<_, Where<Word<4>, IsBelow>>(&rt, 10, &mut cursor, &mut room) == Ok(5));
+    assert!(rt; copy_below_ten(&rt, &mut cursor, &mut room) == Ok(5));
     assert!(rt; room == [0b0101_1111, 0xff, 0xff, 0xff, 0xff, 0xff, 0xff, 0xff]);
-    let refused = copy::<_, Where<Word<4>, IsBelow>>(&rt, 10, &mut cursor, &mut room);
+    let refused = copy_below_ten(&rt, &mut cursor, &mut room);
     assert!(rt; refused == Err(Fault::unnamed()));
-    let refused = copy::<_, Where<Word<4>, IsBelow>>(&rt, 10, &mut cursor, &mut room);
+    let refused = copy_below_ten(&rt, &mut cursor, &mut room);
     assert!(rt; refused == Err(Fault::unnamed()), "the bits are too few");
 }
 
 #[test]
-#[tactic(auto, unfolding(narc_scalar::specs::Names::enumerated, narc_scalar::specs::Word::word))]
 fn a_number_without_a_name_is_refused(rt: HostRuntime) {
     let mut cursor = Cursor::new(&[0b0111_1110]);
     let mut room = [0xff; 8];
-    assert!(rt;
-        copy::<_, EnumOf<Word<2>, Colours>>(&rt, (), &mut cursor, &mut room) == Ok(Colour::Red)
-    );
+    assert!(rt; copy_colour(&rt, &mut cursor, &mut room) == Ok(Colour::Red));
     assert!(rt; room == [0b0111_1111, 0xff, 0xff, 0xff, 0xff, 0xff, 0xff, 0xff]);
-    let refused = copy::<_, EnumOf<Word<2>, Colours>>(&rt, (), &mut cursor, &mut room);
+    let refused = copy_colour(&rt, &mut cursor, &mut room);
     assert!(rt; refused == Err(Fault::unnamed()));
     let mut cursor = Cursor::new(&[0b1000_0000]);
-    assert!(rt;
-        copy::<_, EnumOf<Word<2>, Colours>>(&rt, (), &mut cursor, &mut room) == Ok(Colour::Green)
-    );
+    assert!(rt; copy_colour(&rt, &mut cursor, &mut room) == Ok(Colour::Green));
 }
 
 #[test]

@@ -11,7 +11,7 @@ use Rattle.narc_rules.proofs.Sizes.{joined_size, gapped_size}
 use Rattle.narc_rules.proofs.SizedBytes.{sized_bytes_sound}
 use Rattle.narc_rules.proofs.SomeSums.{some-front, some_number, checked_is_sound}
 use Rattle.narc_rules.proofs.Numbers.{length-bits_of_number}
-use Rattle.narc_examples.proofs.LampState.{lamp, lamp_sound, lamp_laws, lamp_is_wide, lamp_spelled}
+use Rattle.narc_examples.proofs.LampState.{version, lamp, lamp_sound, lamp_laws, lamp_is_wide, lamp_spelled}
 use Rattle.narc_examples.proofs.beacon.beacon_is_sound.Goals as goal
 
 pub returns : goal.returns
@@ -38,4 +38,4 @@ returns c =
     ))
     (λ d ok v b p.
     let state = (lamp_spelled.stands v.0 p.first.front).0 p.first.stood in
-    some-front _ _ p.joined (some-front _ _ p.first.joined (some-front _ _ state.1 (some_number 4 2 (lit< tt) (lit< tt)))))
+    some-front _ _ p.joined (some-front _ _ p.first.joined (some-front _ _ state.1 (some_number 4 version (lit< tt) (lit< tt)))))

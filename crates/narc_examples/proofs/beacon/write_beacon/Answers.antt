@@ -1,0 +1,5 @@
+use Rattle.std.proofs.Common.{arith}
+use Rattle.narc_examples.proofs.beacon.write_beacon.Goals as goal
+
+pub returns-clause-bits : goal.returns-clause-bits
+returns-clause-bits c = omega (arith, c.place.ensures, c.write.ensures.moved, c.new-writer.ensures)
