@@ -16,21 +16,28 @@ fn refused_at(octets: usize) -> (u8, u64) {
     }
 }
 
+/// Where a frame of ARP is refused that ends behind so many octets.
+fn arp_refused_at(octets: usize) -> (u8, u64) {
+    match octets {
+        0..14 => refused_at(octets),
+        14..16 => (field::ARP_HARDWARE, 14),
+        16..18 => (field::ARP_PROTOCOL, 16),
+        18 => (field::ARP_HARDWARE_SIZE, 18),
+        19 => (field::ARP_PROTOCOL_SIZE, 19),
+        20..22 => (field::ARP_OPERATION, 20),
+        22..28 => (field::ARP_SENDER_HARDWARE, 22),
+        28..32 => (field::ARP_SENDER_PROTOCOL, 28),
+        32..38 => (field::ARP_TARGET_HARDWARE, 32),
+        _ => (field::ARP_TARGET_PROTOCOL, 38),
+    }
+}
+
 #[test]
 fn a_frame_of_arp_that_ends_early_is_refused(rt: HostRuntime) {
-    assert!(rt; refuses(&[], field::ETHERNET_DESTINATION, 0));
-    assert!(rt; refuses(&ARP_REQUEST[..5], field::ETHERNET_DESTINATION, 0));
-    assert!(rt; refuses(&ARP_REQUEST[..11], field::ETHERNET_SOURCE, 6));
-    assert!(rt; refuses(&ARP_REQUEST[..13], field::ETHERNET_TYPE, 12));
-    assert!(rt; refuses(&ARP_REQUEST[..15], field::ARP_HARDWARE, 14));
-    assert!(rt; refuses(&ARP_REQUEST[..17], field::ARP_PROTOCOL, 16));
-    assert!(rt; refuses(&ARP_REQUEST[..18], field::ARP_HARDWARE_SIZE, 18));
-    assert!(rt; refuses(&ARP_REQUEST[..19], field::ARP_PROTOCOL_SIZE, 19));
-    assert!(rt; refuses(&ARP_REQUEST[..21], field::ARP_OPERATION, 20));
-    assert!(rt; refuses(&ARP_REQUEST[..27], field::ARP_SENDER_HARDWARE, 22));
-    assert!(rt; refuses(&ARP_REQUEST[..31], field::ARP_SENDER_PROTOCOL, 28));
-    assert!(rt; refuses(&ARP_REQUEST[..37], field::ARP_TARGET_HARDWARE, 32));
-    assert!(rt; refuses(&ARP_REQUEST[..41], field::ARP_TARGET_PROTOCOL, 38));
+    for octets in 0..42 {
+        let (field, at) = arp_refused_at(octets);
+        assert!(rt; refuses(&ARP_REQUEST[..octets], field, at));
+    }
 }
 
 #[test]

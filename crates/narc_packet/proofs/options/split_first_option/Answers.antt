@@ -1,4 +1,4 @@
-use Rattle.std.proofs.Common.{◌≡◌, ◌≤◌, ◌+◌, true, false, List, [], ◌∷◌, arith}
+use Rattle.std.proofs.Common.{◌≡◌, ◌≤◌, ◌+◌, true, false, List, [], ◌∷◌, arith, rules}
 use Rattle.narc_packet.proofs.OptionLists.{ip_options_in-split}
 use Rattle.narc_packet.proofs.options.split_first_option.Goals as goal
 
@@ -18,3 +18,6 @@ returns-in_ok-data-in_default-clause-first c =
 
 pub returns-in_ok-data-in_default-clause-none : goal.returns-in_ok-data-in_default-clause-none
 returns-in_ok-data-in_default-clause-none c = is_some _ _ _ (returns-in_ok-data-in_default-clause-first c)
+
+pub returns-in-0-clause-none : goal.returns-in-0-clause-none
+returns-in-0-clause-none c = search rules
