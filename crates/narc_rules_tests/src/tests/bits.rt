@@ -19,8 +19,8 @@ fn take_words<L: Ledger>(rt: &impl Abort, blank: Blank)
     let mut steps = Steps::<L>::new(blank);
     let octets = [0b1010_1011, 0b1100_1101];
     let mut cursor = Cursor::new(&octets);
-    assert!(rt; cursor.take::<3, L>(&mut steps).ok() == Some(0b101));
-    assert!(rt; cursor.take::<10, L>(&mut steps).ok() == Some(0b0_1011_1100_1));
+    assert!(rt; matches!(cursor.take::<3, L>(&mut steps), Ok(0b101)));
+    assert!(rt; matches!(cursor.take::<10, L>(&mut steps), Ok(0b0_1011_1100_1)));
     assert!(rt; cursor.place() == 13);
     assert!(rt; cursor.left() == 3);
     assert!(rt; cursor.take::<4, L>(&mut steps).is_err());
@@ -28,7 +28,7 @@ fn take_words<L: Ledger>(rt: &impl Abort, blank: Blank)
         cursor.place() == 13,
         "a place stays where too few bits are left"
     );
-    assert!(rt; cursor.take::<3, L>(&mut steps).ok() == Some(0b101));
+    assert!(rt; matches!(cursor.take::<3, L>(&mut steps), Ok(0b101)));
 }
 
 #[test]
@@ -44,7 +44,7 @@ fn take_slice<L: Ledger>(rt: &impl Abort, blank: Blank)
     let mut steps = Steps::<L>::new(blank);
     let octets = [1, 2, 3, 4];
     let mut cursor = Cursor::new(&octets);
-    assert!(rt; cursor.take::<8, L>(&mut steps).ok() == Some(1));
+    assert!(rt; matches!(cursor.take::<8, L>(&mut steps), Ok(1)));
     assert!(rt; cursor.left() == 24);
     let slice = cursor.slice(2, &mut steps);
     assert!(rt; cursor.place() == 24);
@@ -84,18 +84,18 @@ fn split_octets<L: Ledger>(rt: &impl Abort, blank: Blank)
     let mut steps = Steps::<L>::new(blank);
     let octets = [1, 2, 3, 4];
     let mut cursor = Cursor::new(&octets);
-    assert!(rt; cursor.take::<8, L>(&mut steps).ok() == Some(1));
+    assert!(rt; matches!(cursor.take::<8, L>(&mut steps), Ok(1)));
     assert!(rt; cursor.left() == 24);
     let mut before = cursor.copy();
     let mut part = cursor.split(2);
     assert!(rt; part.left() == 16);
-    assert!(rt; part.take::<16, L>(&mut steps).ok() == Some(0x0203));
+    assert!(rt; matches!(part.take::<16, L>(&mut steps), Ok(0x0203)));
     assert!(rt;
         part.take::<1, L>(&mut steps).is_err(),
         "the fourth octet is behind the part"
     );
-    assert!(rt; cursor.take::<8, L>(&mut steps).ok() == Some(4));
-    assert!(rt; before.take::<8, L>(&mut steps).ok() == Some(2));
+    assert!(rt; matches!(cursor.take::<8, L>(&mut steps), Ok(4)));
+    assert!(rt; matches!(before.take::<8, L>(&mut steps), Ok(2)));
     assert!(rt; before.sum(1, 3, &mut steps) == 0x0203 + 0x0400);
 }
 
