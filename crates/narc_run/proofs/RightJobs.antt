@@ -47,7 +47,7 @@ module _ (j : Job) (takes : j ≢ Unread Version)
       source = λ h. absurd (omega (arith, four, h));
       sink = λ h. absurd (omega (arith, four, h));
     };
-    unread = λ none. unread;
+    unread = λ none. (unread, λ h. omega (arith, four, h));
     writing = ([], Appends-same before after same);
     octets = where_told (IsRightRun unmet) told (left_for (Some j) left);
   }

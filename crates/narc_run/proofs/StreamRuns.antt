@@ -299,7 +299,7 @@ statuses j steady x z before after s0 s1 status at (StoppedBehind f) = by_status
 -- all that is promised of a run
 pub right_stream : (j : Job) → IsSteady j → (left left_after before after : Option (List ℕ)) (source_before source_after sink_before sink_after steps_before steps_after : ℕ) (o : Outcome)
     → StreamRun j (left_for (Some j) left) (left_for (Some j) left_after) before after steps_before steps_after o.status o.at
-    → AreCounted o.status o.at source_before source_after sink_before sink_after → (NothingRead NothingWritten : Type 0) → (most j ≡ 0 → NothingRead)
+    → AreCounted o.status o.at source_before source_after sink_before sink_after → (NothingRead NothingWritten : Type 0) → (most j ≡ 0 → NothingRead × (o.status ≢ 5))
     → IsRight (run_of (Some j) left left_after before after source_before source_after sink_before sink_after steps_before steps_after o.status o.at) NothingRead NothingWritten
 right_stream j steady left left_after before after source_before source_after sink_before sink_after steps_before steps_after o run faults NothingRead NothingWritten nothing =
     let x = left_for (Some j) left in
