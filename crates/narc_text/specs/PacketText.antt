@@ -27,5 +27,8 @@ eth_body_words (ArpBody a) =
 eth_body_words (Ipv4Body p) = ipv4_words p ++ ip_body_words p.body
 eth_body_words (OtherBody ether_type payload) = codes "other" ∷ decimal ether_type ∷ hex_word payload ∷ []
 
+abbrev pub packet_words : PacketView → List (List ℕ)
+packet_words p = codes "eth" ∷ mac_word p.dst ∷ mac_word p.src ∷ eth_body_words p.body
+
 abbrev pub text : PacketView → List ℕ
-text p = spaced (codes "eth" ∷ mac_word p.dst ∷ mac_word p.src ∷ eth_body_words p.body)
+text p = spaced (packet_words p)

@@ -17,4 +17,4 @@ pub returns : goal.returns
 returns c =
     let octets = c.args.octets.now in
     let size : length octets ≡ 6 = omega arith in
-    ap (take 12) c.put_sixteen.ensures ∙ take-encode_lower 6 _ ∙ ap encode_lower (six octets size)
+    ap (take 12) c.encode_sixteen.ensures ∙ take-encode_lower 6 _ ∙ ap encode_lower (six octets size)

@@ -1,0 +1,5 @@
+use Rattle.narc_reading.proofs.PacketWords.{text-injective}
+use Rattle.narc_reading.proofs.laws.each_text_has_one_packet.Goals as goal
+
+pub returns : goal.returns
+returns c = text-injective

@@ -1,0 +1,14 @@
+use Rattle.std.proofs.Common.{◌≡◌, ◌++◌, length, map}
+use Rattle.narc_packet.specs.TextWords.{tcp_option_word}
+use Rattle.narc_reading.specs.Parts.{parts_of}
+use Rattle.narc_reading.specs.Reading.{FitTcpArea}
+use Rattle.narc_reading.proofs.options.read_tcp_options.Given as goal
+
+abbrev pub invariant-loop-next : goal.invariant-loop-next
+invariant-loop-next l = record {
+  parts : parts_of 44 l.word ≡ map tcp_option_word l.options ++ l.words;
+  fits : FitTcpArea l.options;
+}
+
+abbrev pub decreases-loop-next : goal.decreases-loop-next
+decreases-loop-next l = length l.words
