@@ -15,7 +15,7 @@ use Rattle.narc_stack.proofs.Canonical.{canonical_few, canonical_is_frame}
 use Rattle.narc_stack.proofs.FrameAdmits.{admitted_of}
 
 -- the octets behind the header
-front_length : (dst src : List ℕ) (t : ℕ) (content : List ℕ) → IsMac dst → IsMac src → length (dst ++ src ++ big_endian 2 t ++ content) ≡ 14 + length content
+pub front_length : (dst src : List ℕ) (t : ℕ) (content : List ℕ) → IsMac dst → IsMac src → length (dst ++ src ++ big_endian 2 t ++ content) ≡ 14 + length content
 front_length dst src t content d s =
     let front = dst ++ src ++ big_endian 2 t in
     omega (arith, length-append front content, length-append (dst ++ src) (big_endian 2 t), length-append dst src, d.0, s.0)
@@ -28,7 +28,7 @@ body_admitted (OtherBody t payload) h = (h.0, h.1, h.2, h.4)
 pub well_formed_admitted : (p : PacketView) → IsWellFormed p → IsAdmitted p
 well_formed_admitted p h = record { dst = h.dst; src = h.src; body = body_admitted p.body h.body }
 
-padded_length : (l : List ℕ) → length (padded l) ≡ length l + (46 - length l)
+pub padded_length : (l : List ℕ) → length (padded l) ≡ length l + (46 - length l)
 padded_length l = omega (arith, length-append l (replicate (46 - length l) 0), length-replicate {A = ℕ} (46 - length l) 0)
 
 body_small : (b : EthBodyView) → IsWellFormedEthBody b → 14 + length (canonical_eth_body b) ≤ MAX_FRAME
