@@ -7,7 +7,8 @@ use Rattle.narc_packet.specs.PacketView.{EthBodyView, ArpBody, Ipv4Body, OtherBo
 use Rattle.narc_packet.specs.Frame.{IsEthBody, IsFrame, arp_octets, ether_type_of}
 use Rattle.narc_packet.specs.Canonical.{padded, canonical_eth_body, canonical_frame}
 use Rattle.narc_packet.specs.Ipv4.{canonical_ipv4}
-use Rattle.narc_packet.specs.Ranges.{IsMac}
+use Rattle.narc_packet.specs.declared.packet.Arp.{Arp}
+use Rattle.narc_packet.specs.Ranges.{IsMac, IsArpInRange}
 use Rattle.narc_packet.specs.WellFormed.{IsWellFormedEthBody, IsWellFormed}
 use Rattle.narc_eth.proofs.ArpLayout.{arp_layout}
 use Rattle.narc_stack.specs.Admitted.{IsAdmittedBody, IsAdmitted}
@@ -30,6 +31,10 @@ well_formed_admitted p h = record { dst = h.dst; src = h.src; body = body_admitt
 
 pub padded_length : (l : List ℕ) → length (padded l) ≡ length l + (46 - length l)
 padded_length l = omega (arith, length-append l (replicate (46 - length l) 0), length-replicate {A = ℕ} (46 - length l) 0)
+
+-- the data of a frame with an ARP packet
+pub arp_size : (a : Arp) → IsArpInRange a → length (canonical_eth_body (ArpBody a)) ≡ 46
+arp_size a h = omega (arith, padded_length (arp_octets a), arp_layout.shape.sized a h)
 
 body_small : (b : EthBodyView) → IsWellFormedEthBody b → 14 + length (canonical_eth_body b) ≤ MAX_FRAME
 body_small (ArpBody a) h = omega (arith, padded_length (arp_octets a), arp_layout.shape.sized a h)
