@@ -11,7 +11,7 @@ use Rattle.narc_pcap.specs.Capture.{Entry, is_snapped}
 use Rattle.narc_pcap.specs.Laws.{AreRecords, size_of}
 use Rattle.narc_run.specs.Findings.{Told, IsTold, AreTold, IsEntryAnswer}
 
-frame_answered : (octets : List ℕ) → IsOctets octets → length octets ≤ MAX_FRAME → (answer : Answer) × IsOnlyAnswer octets answer
+pub frame_answered : (octets : List ℕ) → IsOctets octets → length octets ≤ MAX_FRAME → (answer : Answer) × IsOnlyAnswer octets answer
 frame_answered octets each small = elim (either octets each small) [
   | inl p ↦ (
     Ok p.0,

@@ -19,10 +19,9 @@ use Rattle.narc_run.specs.declared.outcome.Outcome.{Outcome}
 use Rattle.narc_run.specs.Job.{CaptureJob, Capture}
 use Rattle.narc_run.specs.Findings.{Told, Findings, AreTold, frames, frame_cost}
 use Rattle.narc_run.specs.Output.{capture_body, capture_end, body, output}
-use Rattle.narc_run.specs.Verdict.{Verdict, verdict, verdict_of, end_verdict, records_status}
+use Rattle.narc_run.specs.Verdict.{verdict, verdict_of, end_verdict, records_status}
 use Rattle.narc_run.specs.Run.{WroteFront}
-use Rattle.narc_run.specs.CaptureRun as run
-use Rattle.narc_run.specs.CaptureRun.{CaptureRun, Judged, Broken, Overrun, Stopped, StoppedLast, StoppedBehind}
+use Rattle.narc_run.specs.StreamRun.{Takes, Overtakes, StreamRun, Judged, Broken, Overrun, Stopped, StoppedBehind}
 use Rattle.narc_run.proofs.FrameAnswers.{no_findings}
 use Rattle.narc_run.proofs.Walks.{Walks, Walks-start, Walks-end, ReadSoFar, entries_of, cost}
 
@@ -102,56 +101,65 @@ module _ (j : CaptureJob) (reader now : Reading) (x y z a d : Option (List ℕ))
       → capture octets ≡ headed reader.header (record { entries = entries_of told; end = end })
   ends_with end is = Walks-end reader.header so_far.past now.hand told end so_far.walks (ap (λ n. front reader.header.big n now.hand) (sym so_far.place) ∙ is)
 
-  takes : (end : End) → Holds reader now y z → taken now ≤ CAPTURE_LIMIT → front reader.header.big reader.place now.hand ≡ Err end → run.Takes j x z a d s0 s1 octets
+  takes : (end : End) → Holds reader now y z → taken now ≤ CAPTURE_LIMIT → front reader.header.big reader.place now.hand ≡ Err end → Takes (Capture j) x z a d s0 s1 octets
   takes end holds reach is = record {
     took = took holds;
     fits = omega (arith, size holds.place, reach);
+    reach = omega (arith, size holds.place, reach);
     steps = omega (arith, so_far.cheap, cost_is octets reader.header told end (ends_with end is) j);
+  }
+
+  overtakes : (end : End) → capture octets ≡ headed reader.header (record { entries = entries_of told; end = end }) → Exceeds reader now y z → Overtakes (Capture j) x z a d s0 s1 octets
+  overtakes end whole holds = record {
+    octet = holds.octet;
+    took = took_past holds;
+    long = size holds.place ∙ holds.reached;
+    limit = refl;
+    steps = omega (arith, so_far.cheap, cost_is octets reader.header told end whole j);
   }
 
   module _ (end : End) (holds : Holds reader now y z) (is : front reader.header.big reader.place now.hand ≡ Err end) (reach : taken now ≤ CAPTURE_LIMIT)
       (settled : IsEmptyWhereTold z ⊎ IsTrue (is_bad end)) where
     -- the capture ended, or a bad place was shown
-    pub judged : (o : Outcome) → verdict_of o.status o.at ≡ end_verdict (records_status j told) end → Appends (lines ++ capture_end j told end) a d → CaptureRun j x z a d s0 s1 (Ok o)
+    pub judged : (o : Outcome) → verdict_of o.status o.at ≡ end_verdict (records_status j told) end → Appends (lines ++ capture_end j told end) a d → StreamRun (Capture j) x z a d s0 s1 o.status o.at
     judged o v wrote =
         let whole = ends_with end is in
-        Judged o (record {
+        Judged (record {
           octets = octets;
           takes = takes end holds reach is;
-          settled = settled_at z (capture octets).end end (bad_is octets reader.header told end whole) settled;
+          within = λ h. (takes end holds reach is).fits;
           found = record {
             found = found_of told;
             are = are_told octets reader.header told end whole right;
-            holds = (v ∙ sym (verdict_is octets reader.header told end whole j), subst (λ l. Appends l a d) (sym (output_is octets reader.header told end whole j)) wrote);
+            holds = (v ∙ sym (verdict_is octets reader.header told end whole j), settled_at z (capture octets).end end (bad_is octets reader.header told end whole) settled, subst (λ l. Appends l a d) (sym (output_is octets reader.header told end whole j)) wrote);
           };
         })
 
     -- the sink failed at the end
-    pub stopped_last : (f : Failed) → WroteFront (lines ++ capture_end j told end) a d → CaptureRun j x z a d s0 s1 (Err f)
+    pub stopped_last : (f : Failed) → WroteFront (lines ++ capture_end j told end) a d → StreamRun (Capture j) x z a d s0 s1 6 0
     stopped_last f wrote =
         let whole = ends_with end is in
-        StoppedLast f (record {
+        Stopped (record {
           octets = octets;
           takes = takes end holds reach is;
-          settled = settled_at z (capture octets).end end (bad_is octets reader.header told end whole) settled;
+          told = refl;
           found = record {
             found = found_of told;
             are = are_told octets reader.header told end whole right;
-            holds = subst (λ l. WroteFront l a d) (sym (output_is octets reader.header told end whole j)) wrote;
+            holds = inr (settled_at z (capture octets).end end (bad_is octets reader.header told end whole) settled, subst (λ l. WroteFront l a d) (sym (output_is octets reader.header told end whole j)) wrote);
           };
         })
 
   module _ (holds : Holds reader now y z) (short : IsShort (front reader.header.big reader.place now.hand)) (reach : taken now ≤ CAPTURE_LIMIT) where
     -- the source failed
-    pub broken : (o : Outcome) → verdict_of o.status o.at ≡ verdict_of 5 (taken now) → Appends lines a d → CaptureRun j x z a d s0 s1 (Ok o)
+    pub broken : (o : Outcome) → verdict_of o.status o.at ≡ verdict_of 5 (taken now) → Appends lines a d → StreamRun (Capture j) x z a d s0 s1 o.status o.at
     broken o v wrote =
         let e = short_end (front reader.header.big reader.place now.hand) short in
         let whole = ends_with e.end e.is in
-        Broken o (record {
+        Broken (record {
           octets = octets;
           takes = takes e.end holds reach e.is;
-          told = ap (λ (v : Verdict). v.status) v;
-          place = ap (λ (v : Verdict). v.at) v ∙ sym (size holds.place);
+          told = v ∙ ap (verdict_of 5) (sym (size holds.place));
           found = record {
             found = found_of told;
             are = are_told octets reader.header told e.end whole right;
@@ -160,34 +168,31 @@ module _ (j : CaptureJob) (reader now : Reading) (x y z a d : Option (List ℕ))
         })
 
     -- the sink failed behind it
-    pub stopped_short : (f : Failed) → WroteFront lines a d → CaptureRun j x z a d s0 s1 (Err f)
+    pub stopped_short : (f : Failed) → WroteFront lines a d → StreamRun (Capture j) x z a d s0 s1 6 0
     stopped_short f wrote =
         let e = short_end (front reader.header.big reader.place now.hand) short in
         let whole = ends_with e.end e.is in
-        Stopped f (record {
+        Stopped (record {
           octets = octets;
           takes = takes e.end holds reach e.is;
+          told = refl;
           found = record {
             found = found_of told;
             are = are_told octets reader.header told e.end whole right;
-            holds = subst (λ l. WroteFront l a d) (sym (body_is octets reader.header told e.end whole j)) wrote;
+            holds = inl (subst (λ l. WroteFront l a d) (sym (body_is octets reader.header told e.end whole j)) wrote);
           };
         })
 
   module _ (holds : Exceeds reader now y z) (short : IsShort (front reader.header.big reader.place now.hand)) where
     -- the limit was passed
-    pub overrun : (o : Outcome) → verdict_of o.status o.at ≡ verdict_of 7 CAPTURE_LIMIT → Appends lines a d → CaptureRun j x z a d s0 s1 (Ok o)
+    pub overrun : (o : Outcome) → verdict_of o.status o.at ≡ verdict_of 7 CAPTURE_LIMIT → Appends lines a d → StreamRun (Capture j) x z a d s0 s1 o.status o.at
     overrun o v wrote =
         let e = short_end (front reader.header.big reader.place now.hand) short in
         let whole = ends_with e.end e.is in
-        Overrun o (record {
+        Overrun (record {
           octets = octets;
-          octet = holds.octet;
-          took = took_past holds;
-          long = size holds.place ∙ holds.reached;
-          steps = omega (arith, so_far.cheap, cost_is octets reader.header told e.end whole j);
-          told = ap (λ (v : Verdict). v.status) v;
-          place = ap (λ (v : Verdict). v.at) v;
+          takes = overtakes e.end whole holds;
+          told = v;
           found = record {
             found = found_of told;
             are = are_told octets reader.header told e.end whole right;
@@ -199,16 +204,14 @@ module _ (j : CaptureJob) (reader now : Reading) (x y z a d : Option (List ℕ))
         })
 
     -- the sink failed behind it
-    pub stopped_behind : (f : Failed) → WroteFront lines a d → CaptureRun j x z a d s0 s1 (Err f)
+    pub stopped_behind : (f : Failed) → WroteFront lines a d → StreamRun (Capture j) x z a d s0 s1 6 0
     stopped_behind f wrote =
         let e = short_end (front reader.header.big reader.place now.hand) short in
         let whole = ends_with e.end e.is in
-        StoppedBehind f (record {
+        StoppedBehind (record {
           octets = octets;
-          octet = holds.octet;
-          took = took_past holds;
-          long = size holds.place ∙ holds.reached;
-          steps = omega (arith, so_far.cheap, cost_is octets reader.header told e.end whole j);
+          takes = overtakes e.end whole holds;
+          told = refl;
           found = record {
             found = found_of told;
             are = are_told octets reader.header told e.end whole right;
@@ -244,10 +247,11 @@ module _ (j : CaptureJob) (fresh now : Reading) (x z a d : Option (List ℕ)) (s
   taken_all : holds.pulled ≡ now.hand
   taken_all = sym (holds.hand ∙ ap (λ l. l ++ holds.pulled) is_fresh.0)
 
-  takes_all : run.Takes j x z a d s s now.hand
+  takes_all : Takes (Capture j) x z a d s s now.hand
   takes_all = record {
     took = subst (λ l. TakesFront l x z) taken_all holds.took;
     fits = omega (arith, reach);
+    reach = omega (arith, reach);
     steps = omega arith;
   }
 
@@ -265,39 +269,38 @@ module _ (j : CaptureJob) (fresh now : Reading) (x z a d : Option (List ℕ)) (s
     settles = settled_at z (capture now.hand).end end (ap (λ (v : CaptureView). is_bad v.end) is) settled
 
     -- the capture has no header
-    pub headless_judged : (o : Outcome) → verdict_of o.status o.at ≡ end_verdict (records_status j []) end → Appends (capture_end j [] end) a d → CaptureRun j x z a d s s (Ok o)
-    headless_judged o v wrote = Judged o (record {
+    pub headless_judged : (o : Outcome) → verdict_of o.status o.at ≡ end_verdict (records_status j []) end → Appends (capture_end j [] end) a d → StreamRun (Capture j) x z a d s s o.status o.at
+    headless_judged o v wrote = Judged (record {
       octets = now.hand;
       takes = takes_all;
-      settled = settles;
+      within = λ h. takes_all.fits;
       found = record {
         found = found_of [];
         are = none_told;
-        holds = (v ∙ sym (ap (λ (v : CaptureView). end_verdict (records_status j []) v.end) is), subst (λ l. Appends l a d) (sym none_output) wrote);
+        holds = (v ∙ sym (ap (λ (v : CaptureView). end_verdict (records_status j []) v.end) is), settles, subst (λ l. Appends l a d) (sym none_output) wrote);
       };
     })
 
-    pub headless_stopped : (f : Failed) → WroteFront (capture_end j [] end) a d → CaptureRun j x z a d s s (Err f)
-    headless_stopped f wrote = StoppedLast f (record {
+    pub headless_stopped : (f : Failed) → WroteFront (capture_end j [] end) a d → StreamRun (Capture j) x z a d s s 6 0
+    headless_stopped f wrote = Stopped (record {
       octets = now.hand;
       takes = takes_all;
-      settled = settles;
+      told = refl;
       found = record {
         found = found_of [];
         are = none_told;
-        holds = subst (λ l. WroteFront l a d) (sym none_output) wrote;
+        holds = inr (settles, subst (λ l. WroteFront l a d) (sym none_output) wrote);
       };
     })
 
   -- the source failed before the header came
-  pub headless_broken : (o : Outcome) → verdict_of o.status o.at ≡ verdict_of 5 (taken now) → Appends [] a d → CaptureRun j x z a d s s (Ok o)
+  pub headless_broken : (o : Outcome) → verdict_of o.status o.at ≡ verdict_of 5 (taken now) → Appends [] a d → StreamRun (Capture j) x z a d s s o.status o.at
   headless_broken o v wrote =
       let first : now.place ≡ 0 = holds.place ∙ is_fresh.1 in
-      Broken o (record {
+      Broken (record {
         octets = now.hand;
         takes = takes_all;
-        told = ap (λ (v : Verdict). v.status) v;
-        place = ap (λ (v : Verdict). v.at) v ∙ ap (λ n. n + length now.hand) first ∙ zero-add (length now.hand);
+        told = v ∙ ap (verdict_of 5) (ap (λ n. n + length now.hand) first ∙ zero-add (length now.hand));
         found = record {
           found = found_of [];
           are = none_told;

@@ -1,23 +1,22 @@
--- The jobs that read nothing keep what is promised of runs.
-use Rattle.std.proofs.Common.{◌≡◌, ◌≢◌, ℕ, ◌+◌, ◌-◌, ◌*◌, ◌≤◌, ◌⊎◌, inl, inr, false, true, List, [], ◌++◌, length, map, take, Option, Some, None, refl, sym, ap, ◌∙◌, subst, arith}
+-- How the jobs end that read nothing, and that they keep what is promised of runs.
+use Rattle.std.proofs.Common.{◌≡◌, ℕ, ◌+◌, ◌*◌, ◌≤◌, inl, inr, [], List, length, map, Option, Some, refl, ap, subst, arith}
 use Rattle.std.specs.Prelude.{sum_by}
-use Rattle.std.proofs.Math.Seq.{take-nil}
 use Rattle.narc_world.specs.Outside.{Rose, Appends, CountsFaults}
-use Rattle.narc_pcap.specs.declared.limit.TheConstants.{CAPTURE_LIMIT}
 use Rattle.narc_trial.specs.declared.counts.TrialCounts.{TrialCounts}
 use Rattle.narc_trial.specs.Hurt.{hurt}
 use Rattle.narc_trial.specs.Trying.{numbers}
 use Rattle.narc_trial.specs.Counting.{IsTrial}
 use Rattle.narc_run.specs.declared.outcome.Outcome.{Outcome}
-use Rattle.narc_run.specs.Job.{UnreadJob, Unread, Trial, Version, job}
+use Rattle.narc_run.specs.Job.{UnreadJob, Unread, Trial, Version}
 use Rattle.narc_run.specs.Findings.{Found, frames, frame_cost}
 use Rattle.narc_run.specs.Output.{output, trial_line, version_line}
-use Rattle.narc_run.specs.Run.{Reads, WhereTold, IsRightRun, IsRightWriting, IsUnreadRun, OnUnread, WroteFront}
+use Rattle.narc_run.specs.Verdict.{verdict_of}
+use Rattle.narc_run.specs.Run.{WroteFront, IsRight, run_of}
+use Rattle.narc_run.specs.StreamRun.{Takes, StreamRun, Judged, Stopped}
 use Rattle.narc_run.specs.UnreadRun.{UnreadRun, IsToldOrCut}
-use Rattle.narc_run.specs.RightJob.{IsRight, IsRightFor}
 use Rattle.narc_run.proofs.FrameAnswers.{no_findings}
-use Rattle.narc_run.proofs.Jobs.{for_job, where_none, not_none, run_of, taken_is}
 use Rattle.narc_run.proofs.RightJobs.{without_memory}
+use Rattle.narc_run.proofs.StreamRuns.{IsSteady, right_stream}
 
 -- a job that reads nothing wrote its line, or a front of it
 pub record Writes (line : List ℕ) (before after : Option (List ℕ)) (sink_before sink_after : ℕ) (o : Outcome) : Type 0 where
@@ -85,105 +84,50 @@ pub version-later : (before after : Option (List ℕ)) (sink_before sink_after s
     → UnreadRun Version before after sink_before sink_after steps steps o NothingWritten
 version-later before after k0 k1 steps o NothingWritten run = record { place = run.place; faults = run.faults; steps = omega arith; ended = elim run.ended [ inl told ↦ inl told | inr lacks ↦ absurd (lacks.0 refl) ] }
 
-never_reads : (u : UnreadJob) → Reads (Unread u) → ⊥
-never_reads u reads = let no : false ≡ true = reads in cc
+done_at : (status at : ℕ) → status ≡ 0 → at ≡ 0 → verdict_of status at ≡ verdict_of 0 0
+done_at status at p q = cc
 
-module _ (u : UnreadJob) (words : List (List ℕ)) (is : job words ≡ Some (Unread u))
-    (before after : Option (List ℕ)) (source sink_before sink_after steps_before steps_after : ℕ) (o : Outcome) (place : o.at ≡ 0) (faults : CountsFaults (λ rose. o.status ≡ 6 → rose) sink_before sink_after)
-    (steps : steps_after ≤ steps_before + sum_by frame_cost (frames (Unread u) [])) (told : Found (Unread u) [] (λ found. IsToldOrCut 0 o.status (output (Unread u) [] found) before after)) where
-  ended : (o.status ≡ 0) ⊎ (o.status ≡ 6)
-  ended = elim told.holds [ inl all ↦ inl all.0 | inr cut ↦ inr cut.0 ]
+steady : (u : UnreadJob) → IsSteady (Unread u)
+steady u = record {
+  few = λ s found. omega arith;
+  two = λ s found h. omega (arith, h);
+  decided = λ s found are no_. cc;
+  stays = λ s more found are no_. cc;
+}
 
-  -- no other status
-  neither : (n : ℕ) → n ≢ 0 → n ≢ 6 → o.status ≡ n → ⊥
-  neither n done failed h = elim ended [ inl e ↦ done (sym h ∙ e) | inr e ↦ failed (sym h ∙ e) ]
+module _ (u : UnreadJob) (before after : Option (List ℕ)) (steps steps_after : ℕ) (o : Outcome) (place : o.at ≡ 0) (cheap : steps_after ≤ steps + sum_by frame_cost (frames (Unread u) [])) where
+  takes : Takes (Unread u) (Some []) (Some []) before after steps steps_after []
+  takes = record { took = refl; fits = omega arith; reach = omega arith; steps = cheap }
 
-  whole : o.status ≡ 0 → Found (Unread u) [] (λ found. Appends (output (Unread u) [] found) before after)
-  whole h = record {
-    found = told.found;
-    are = told.are;
-    holds = elim told.holds [ inl all ↦ all.1 | inr cut ↦ absurd (omega (arith, h, cut.0)) ];
-  }
-
-  cut_short : o.status ≡ 6 → Found (Unread u) [] (λ found. WroteFront (output (Unread u) [] found) before after)
-  cut_short h = record {
-    found = told.found;
-    are = told.are;
-    holds = elim told.holds [ inl all ↦ absurd (omega (arith, h, all.0)) | inr cut ↦ cut.1 ];
-  }
-
-  done : (Rose sink_before sink_after → ⊥) → o.status ≡ 0
-  done well = elim ended [ inl e ↦ e | inr e ↦ absurd (well (faults.cause e)) ]
-
-  unread : (NothingRead : Type 0) → NothingRead → IsUnreadRun u o.status o.at before after sink_before sink_after steps_before steps_after NothingRead
-  unread NothingRead nothing = record {
-    unread = nothing;
-    few = elim ended [ inl e ↦ inl e | inr e ↦ inr (inr e) ];
-    place = place;
-    done = whole;
-    cut = cut_short;
-    steps = steps;
-    complete = λ well memory. done well;
-  }
-
-  writing : IsRightWriting words o.status before after
-  writing = record {
-    appended = elim told.holds [ inl all ↦ output (Unread u) [] told.found | inr cut ↦ take (cut.1).0 (output (Unread u) [] told.found) ];
-    whole = elim told.holds as (λ h. Appends (elim h [ inl all ↦ output (Unread u) [] told.found | inr cut ↦ take (cut.1).0 (output (Unread u) [] told.found) ]) before after)
-        [ inl all ↦ all.1 | inr cut ↦ (cut.1).1 ];
-    usage = λ h. absurd (neither 2 (omega arith) (omega arith) h);
-    usage_cut = λ h. where_none words (Unread u) is _;
-    memory = λ h. absurd (neither 4 (omega arith) (omega arith) h);
-  }
-
-  right_told : (input : List ℕ) → IsRightRun (run_of words input input before after source source sink_before sink_after steps_before steps_after o.status o.at)
-  right_told input =
-      let nothing = taken_is input [] input refl in
-      let counts_none : take CAPTURE_LIMIT (take (length input - length input) input) ≡ [] = ap (take CAPTURE_LIMIT) nothing ∙ take-nil CAPTURE_LIMIT in
-      record {
-        front = sym (ap (λ l. l ++ input) nothing);
-        reach = for_job words (Unread u) is _ nothing;
-        done = λ h. for_job words (Unread u) is _ (λ reads. absurd (never_reads u reads));
-        malformed = λ h. absurd (neither 3 (omega arith) (omega arith) h);
-        source_fault = λ h. absurd (neither 5 (omega arith) (omega arith) h);
-        sink_fault = λ h. for_job words (Unread u) is _ (inr (
-          inl (never_reads u),
-          subst (λ (s : List ℕ). Found (Unread u) s (λ found. WroteFront (output (Unread u) s found) before after)) (sym counts_none) (cut_short h),
-        ));
-        limit = λ h. absurd (neither 7 (omega arith) (omega arith) h);
-        steps = for_job words (Unread u) is _ steps;
-        complete = λ s k w. (where_none words (Unread u) is _, for_job words (Unread u) is _ (done k));
-      }
-
-  -- where the source tells its octets, all of which it has still
-  octets : (left : Option (List ℕ)) → WhereTold left left (λ input rest. IsRightRun (run_of words input rest before after source source sink_before sink_after steps_before steps_after o.status o.at))
-  octets (Some input) = right_told input
-  octets None = tt
-
-  right : (left : Option (List ℕ)) (NothingRead NothingWritten : Type 0) → NothingRead
-      → IsRight words left left before after source source sink_before sink_after steps_before steps_after o NothingRead NothingWritten
-  right left NothingRead NothingWritten nothing = record {
-    few = elim ended [ inl e ↦ omega (arith, e) | inr e ↦ omega (arith, e) ];
-    usage = record { told = λ none. absurd (not_none words (Unread u) is none); only = λ h. absurd (neither 2 (omega arith) (omega arith) h) };
-    limit = λ h. absurd (neither 7 (omega arith) (omega arith) h);
-    memory = λ h. absurd (neither 4 (omega arith) (omega arith) h);
-    faults = record {
-      source_later = omega arith;
-      sink_later = faults.later;
-      source = λ h. absurd (neither 5 (omega arith) (omega arith) h);
-      sink = λ h. (faults.cause h, place);
-    };
-    unread = for_job words (Unread u) is (OnUnread _) (unread NothingRead nothing);
-    writing = writing;
-    octets = octets left;
-  }
+  -- its line was written, or a front of it
+  streams : Found (Unread u) [] (λ found. IsToldOrCut 0 o.status (output (Unread u) [] found) before after) → StreamRun (Unread u) (Some []) (Some []) before after steps steps_after o.status o.at
+  streams found = elim found.holds [
+    | inl all ↦ Judged (record {
+      octets = [];
+      takes = takes;
+      within = λ h. omega arith;
+      found = record { found = found.found; are = found.are; holds = (done_at o.status o.at all.0 place, inl refl, all.1) };
+    })
+    | inr cut ↦ Stopped (record {
+      octets = [];
+      takes = takes;
+      told = cut.0;
+      found = record { found = found.found; are = found.are; holds = inr (inl refl, cut.1) };
+    })
+  ]
 
 -- all that is promised of the job, whatever source there is
 pub right_unread : (u : UnreadJob) (left before after : Option (List ℕ)) (source sink_before sink_after steps_before steps_after : ℕ) (o : Outcome) (NothingRead NothingWritten : Type 0)
     → UnreadRun u before after sink_before sink_after steps_before steps_after o NothingWritten → NothingRead
-    → IsRightFor (Some (Unread u)) left left before after source source sink_before sink_after steps_before steps_after o NothingRead NothingWritten
-right_unread u left before after source sink_before sink_after steps_before steps_after o NothingRead NothingWritten run nothing words is = elim run.ended [
-  | inl told ↦ right u words is before after source sink_before sink_after steps_before steps_after o run.place run.faults run.steps told left NothingRead NothingWritten nothing
-  | inr lacks ↦ without_memory words (Unread u) is (λ same. let version : u ≡ Version = cc in lacks.0 version) left before after (lacks.1).held source sink_before sink_after (run.faults).later
+    → IsRight (run_of (Some (Unread u)) left left before after source source sink_before sink_after steps_before steps_after o.status o.at) NothingRead NothingWritten
+right_unread u left before after source sink_before sink_after steps_before steps_after o NothingRead NothingWritten run nothing = elim run.ended [
+  | inl told ↦ right_stream (Unread u) (steady u) left left before after source source sink_before sink_after steps_before steps_after o (streams u before after steps_before steps_after o run.place run.steps told)
+      (record {
+        source_later = omega arith;
+        sink_later = (run.faults).later;
+        source = λ h. elim told.holds [ inl all ↦ absurd (omega (arith, h, all.0)) | inr cut ↦ absurd (omega (arith, h, cut.0)) ];
+        sink = λ h. ((run.faults).cause h, run.place);
+      }) NothingRead NothingWritten (λ none. nothing)
+  | inr lacks ↦ without_memory (Unread u) (λ same. let version : u ≡ Version = cc in lacks.0 version) left before after (lacks.1).held source sink_before sink_after (run.faults).later
       steps_before steps_after (omega (arith, (lacks.1).same_steps)) o (lacks.1).told run.place NothingRead NothingWritten nothing (lacks.1).unwritten
 ]

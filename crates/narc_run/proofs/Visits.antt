@@ -1,5 +1,5 @@
 -- How a walk over a capture ends, by what was read, seen and printed so far.
-use Rattle.std.proofs.Common.{◌≡◌, ℕ, ◌+◌, ◌≤◌, ◌⊎◌, List, [], ◌∷◌, ◌++◌, length, take, min, Option, Some, None, Result, Ok, Err, refl, sym, ap, ◌∙◌, subst, append_assoc, append-nil, arith, length-append}
+use Rattle.std.proofs.Common.{◌≡◌, ℕ, ◌+◌, ◌≤◌, ◌⊎◌, inl, inr, List, [], ◌∷◌, ◌++◌, length, take, min, Option, Some, None, Result, Ok, Err, refl, sym, ap, ◌∙◌, subst, append_assoc, append-nil, arith, length-append}
 use Rattle.std.specs.Prelude.{IsErr, IsTrue, flat_map, sum_by}
 use Rattle.std.proofs.lemmas.List.{take_at, take_min, take-append-le, flat_map_more}
 use Rattle.std.proofs.lemmas.Grind.{flat_map-append}
@@ -10,8 +10,11 @@ use Rattle.narc_world.specs.Outside.{TakesFront, IsEmptyWhereTold, Appends}
 use Rattle.narc_pcap.specs.declared.limit.TheConstants.{CAPTURE_LIMIT}
 use Rattle.narc_pcap.specs.declared.header.Header.{Header}
 use Rattle.narc_pcap.specs.declared.record.End.{End}
+use Rattle.narc_pcap.specs.declared.record.End.TheVariants.{Clean, Torn, Bad}
 use Rattle.narc_pcap.specs.Capture.{front, cut, capture, CaptureView, no_header, is_bad}
-use Rattle.narc_pcap.specs.Reading.{Reading, Holds, Exceeds, IsFresh, IsShort, taken}
+use Rattle.narc_pcap.specs.declared.reader.Next.{Next}
+use Rattle.narc_pcap.specs.declared.reader.Next.TheVariants as next
+use Rattle.narc_pcap.specs.Reading.{Reading, Holds, Exceeds, IsFresh, IsNext, IsShort, taken}
 use Rattle.narc_pcap.proofs.CaptureCuts.{cut_records}
 use Rattle.narc_text.specs.Printing.{Passes, Stops}
 use Rattle.narc_text.proofs.Printings.{Appends-append, Passes-then}
@@ -21,8 +24,8 @@ use Rattle.narc_run.specs.Findings.{Told, AreTold, frames, frame_cost}
 use Rattle.narc_run.specs.Output.{header_text, record_text, capture_body, capture_end}
 use Rattle.narc_run.specs.Verdict.{verdict_of}
 use Rattle.narc_run.specs.Run.{WroteFront}
-use Rattle.narc_run.specs.Visiting.{HasRoom, Finishes}
-use Rattle.narc_run.specs.CaptureRun.{IsShown, CaptureRun, Stopped}
+use Rattle.narc_run.specs.Visiting.{HasRoom, Closes, Finishes}
+use Rattle.narc_run.specs.StreamRun.{IsShown, EndsStream, StreamRun, Stopped}
 use Rattle.narc_run.proofs.Walks.{Walks, ReadSoFar, entries_of, cost, cost-append}
 use Rattle.narc_run.proofs.Answered.{all_answered, AreTold-append}
 use Rattle.narc_run.proofs.CaptureSoFar.{found_of, judged, stopped_last, broken, stopped_short, overrun, stopped_behind, headless_judged, headless_stopped}
@@ -114,7 +117,7 @@ passes_same all page after x y z p q = subst (λ l. Passes l after x z) (append-
 module _ (j : CaptureJob) (Saw : Option Header → List Told → Type 0) (fresh now : Reading) (x z a d : Option (List ℕ)) (s : ℕ) (is_fresh : IsFresh fresh) (holds : Holds fresh now x z) (reach : taken now ≤ CAPTURE_LIMIT)
     (end : End) (is : capture now.hand ≡ no_header end) where
   pub headless : (page : List ℕ) → page ≡ [] → Saw None [] → IsEmptyWhereTold z ⊎ IsTrue (is_bad end)
-      → (r : Result Outcome Failed) → Finishes j Saw end r page a d → CaptureRun j x z a d s s r
+      → (r : Result Outcome Failed) → Finishes j Saw end r page a d → EndsStream (Capture j) x z a d s s r
   headless page empty saw settled (Ok o) h =
       let shown = h None [] saw in
       headless_judged j fresh now x z a d s is_fresh holds reach end is settled o shown.0 (subst (λ l. Appends (l ++ capture_end j [] end) a d) empty shown.1)
@@ -127,8 +130,8 @@ module _ (j : CaptureJob) (Saw : Option Header → List Told → Type 0) (reader
   lines = capture_body j (Some reader.header) so_far.told
 
   -- the capture ended, or a bad place was shown
-  pub ended : Saw (Some reader.header) so_far.told → (end : End) → Holds reader now y z → front reader.header.big reader.place now.hand ≡ Err end → taken now ≤ CAPTURE_LIMIT
-      → IsEmptyWhereTold z ⊎ IsTrue (is_bad end) → (r : Result Outcome Failed) → Finishes j Saw end r page b c → CaptureRun j x z a c s0 s1 r
+  ended : Saw (Some reader.header) so_far.told → (end : End) → Holds reader now y z → front reader.header.big reader.place now.hand ≡ Err end → taken now ≤ CAPTURE_LIMIT
+      → IsEmptyWhereTold z ⊎ IsTrue (is_bad end) → (r : Result Outcome Failed) → Finishes j Saw end r page b c → EndsStream (Capture j) x z a c s0 s1 r
   ended saw end holds is reach settled (Ok o) h =
       let shown = h (Some reader.header) so_far.told saw in
       judged j reader now x y z a c s0 s1 so_far end holds is reach settled o shown.0
@@ -138,22 +141,32 @@ module _ (j : CaptureJob) (Saw : Option Header → List Told → Type 0) (reader
       (cut_page lines page (capture_end j so_far.told end) a b c printed (h (Some reader.header) so_far.told saw))
 
   -- the source failed
-  pub broke : Holds reader now y z → IsShort (front reader.header.big reader.place now.hand) → taken now ≤ CAPTURE_LIMIT
-      → (r : Result Outcome Failed) → IsShown r page (verdict_of 5 (taken now)) b c → CaptureRun j x z a c s0 s1 r
+  broke : Holds reader now y z → IsShort (front reader.header.big reader.place now.hand) → taken now ≤ CAPTURE_LIMIT
+      → (r : Result Outcome Failed) → IsShown r page (verdict_of 5 (taken now)) b c → EndsStream (Capture j) x z a c s0 s1 r
   broke holds short reach (Ok o) h = broken j reader now x y z a c s0 s1 so_far holds short reach o h.0 (pushed_whole lines page a b c printed h.1)
   broke holds short reach (Err f) h = stopped_short j reader now x y z a c s0 s1 so_far holds short reach f (cut_whole lines page a b c printed h)
 
   -- the limit was passed
-  pub overran : Exceeds reader now y z → IsShort (front reader.header.big reader.place now.hand)
-      → (r : Result Outcome Failed) → IsShown r page (verdict_of 7 CAPTURE_LIMIT) b c → CaptureRun j x z a c s0 s1 r
+  overran : Exceeds reader now y z → IsShort (front reader.header.big reader.place now.hand)
+      → (r : Result Outcome Failed) → IsShown r page (verdict_of 7 CAPTURE_LIMIT) b c → EndsStream (Capture j) x z a c s0 s1 r
   overran holds short (Ok o) h = overrun j reader now x y z a c s0 s1 so_far holds short o h.0 (pushed_whole lines page a b c printed h.1)
   overran holds short (Err f) h = stopped_behind j reader now x y z a c s0 s1 so_far holds short f (cut_whole lines page a b c printed h)
+
+  -- the reader found no further record
+  pub closed : Saw (Some reader.header) so_far.told → (last : Next) → IsNext reader now y z last → taken now ≤ CAPTURE_LIMIT
+      → (r : Result Outcome Failed) → Closes j Saw last (taken now) r page b c → EndsStream (Capture j) x z a c s0 s1 r
+  closed saw (next.Rec head) found reach r h = absurd h
+  closed saw next.End found reach r h = ended saw Clean found.0 found.1 reach (inl found.2) r h
+  closed saw (next.Torn at) found reach r h = ended saw (Torn at) found.0 found.1 reach (inl found.2) r h
+  closed saw (next.Bad at) found reach r h = ended saw (Bad at) found.0 found.1 reach (inr refl) r h
+  closed saw next.ReadFault found reach r h = broke found.0 found.1 reach r h
+  closed saw next.Long found reach r h = overran found.0 found.1 r h
 
 -- the sink failed while octets are in hand: their records have answers too
 module _ (j : CaptureJob) (reader : Reading) (x y a c : Option (List ℕ)) (s0 s1 : ℕ) (so_far : ReadSoFar reader x y s0 s1) (reach : taken reader ≤ CAPTURE_LIMIT)
     (wrote : WroteFront (capture_body j (Some reader.header) so_far.told) a c) where
-  stopped : (e : Failed) → CaptureRun j x y a c s0 s1 (Err e)
-  stopped e =
+  stopped : StreamRun (Capture j) x y a c s0 s1 6 0
+  stopped =
       let h = reader.header in
       let octets = so_far.past ++ reader.hand in
       let later = cut h.big 0 (length so_far.past) reader.hand in
@@ -166,21 +179,23 @@ module _ (j : CaptureJob) (reader : Reading) (x y a c : Option (List ℕ)) (s0 s
       let costs : sum_by frame_cost (frames (Capture j) octets) ≡ cost (entries_of so_far.told ++ later.entries) = ap (λ (v : CaptureView). cost v.entries) leads in
       let lines : capture_body j (capture octets).header told ≡ capture_body j (Some h) so_far.told ++ flat_map (record_text j h) more.0 =
       ap (λ (v : CaptureView). capture_body j v.header told) leads ∙ body_append j h so_far.told more.0 in
-      Stopped e (record {
+      Stopped (record {
         octets = octets;
         takes = record {
           took = so_far.took;
           fits = omega (arith, length-append so_far.past reader.hand, so_far.place, reach);
+          reach = omega (arith, length-append so_far.past reader.hand, so_far.place, reach);
           steps = omega (arith, so_far.cheap, costs, cost-append (entries_of so_far.told) later.entries);
         };
+        told = refl;
         found = record {
           found = found_of told;
           are = subst (λ l. AreTold l told) (sym (ap (λ (v : CaptureView). v.entries) leads)) are;
-          holds = subst (λ l. WroteFront l a c) (sym lines) (front_longer (capture_body j (Some h) so_far.told) (flat_map (record_text j h) more.0) a c wrote);
+          holds = inl (subst (λ l. WroteFront l a c) (sym lines) (front_longer (capture_body j (Some h) so_far.told) (flat_map (record_text j h) more.0) a c wrote));
         };
       })
 
   -- the answer is handed on
-  pub stopped_by : (r : Result Outcome Failed) → IsErr r → CaptureRun j x y a c s0 s1 r
+  pub stopped_by : (r : Result Outcome Failed) → IsErr r → EndsStream (Capture j) x y a c s0 s1 r
   stopped_by (Ok o) e = cc
-  stopped_by (Err f) e = stopped f
+  stopped_by (Err f) e = stopped

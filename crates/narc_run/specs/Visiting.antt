@@ -5,14 +5,18 @@ use Rattle.narc_packet.specs.Answer.{Answer}
 use Rattle.narc_pcap.specs.declared.limit.TheConstants.{CAPTURE_LIMIT}
 use Rattle.narc_pcap.specs.declared.header.Header.{Header}
 use Rattle.narc_pcap.specs.declared.record.End.{End}
+use Rattle.narc_pcap.specs.declared.record.End.TheVariants.{Clean, Torn, Bad}
+use Rattle.narc_pcap.specs.declared.reader.Next.{Next}
+use Rattle.narc_pcap.specs.declared.reader.Next.TheVariants.{Rec, ReadFault, Long}
+use Rattle.narc_pcap.specs.declared.reader.Next.TheVariants as next
 use Rattle.narc_pcap.specs.Capture.{Entry}
 use Rattle.narc_text.specs.Printing.{IsPrinted}
 use Rattle.narc_run.specs.declared.outcome.Outcome.{Outcome}
 use Rattle.narc_run.specs.Job.{CaptureJob}
 use Rattle.narc_run.specs.Findings.{Told, IsEntryAnswer}
 use Rattle.narc_run.specs.Output.{record_text, capture_end}
-use Rattle.narc_run.specs.Verdict.{end_verdict, records_status}
-use Rattle.narc_run.specs.CaptureRun.{IsShown}
+use Rattle.narc_run.specs.Verdict.{end_verdict, records_status, verdict_of}
+use Rattle.narc_run.specs.StreamRun.{IsShown}
 
 abbrev pub told_as : Entry → Option Answer → Told
 told_as entry answer = record { entry = entry; answer = answer }
@@ -44,3 +48,21 @@ IsStatus c Saw status = (h : Option Header) → (told : List Told) → Saw h tol
 abbrev pub Finishes : CaptureJob → (Saw : Option Header → List Told → Type 0) → End → Result Outcome Failed → (page : List ℕ) → (before after : Option (List ℕ)) → Type 0
 Finishes c Saw end result page before after =
     (h : Option Header) → (told : List Told) → Saw h told → IsShown result (page ++ capture_end c told end) (end_verdict (records_status c told) end) before after
+
+-- a reader's answer that is no record
+abbrev pub Ends : Next → Type 0
+Ends (Rec head) = ⊥
+Ends next.End = Unit {0}
+Ends (next.Torn at) = Unit {0}
+Ends (next.Bad at) = Unit {0}
+Ends ReadFault = Unit {0}
+Ends Long = Unit {0}
+
+-- the walk ended by an answer of its reader, of which so many octets were taken
+abbrev pub Closes : CaptureJob → (Saw : Option Header → List Told → Type 0) → Next → (taken : ℕ) → Result Outcome Failed → (page : List ℕ) → (before after : Option (List ℕ)) → Type 0
+Closes c Saw (Rec head) taken result page before after = ⊥
+Closes c Saw next.End taken result page before after = Finishes c Saw Clean result page before after
+Closes c Saw (next.Torn at) taken result page before after = Finishes c Saw (Torn at) result page before after
+Closes c Saw (next.Bad at) taken result page before after = Finishes c Saw (Bad at) result page before after
+Closes c Saw ReadFault taken result page before after = IsShown result page (verdict_of 5 taken) before after
+Closes c Saw Long taken result page before after = IsShown result page (verdict_of 7 CAPTURE_LIMIT) before after

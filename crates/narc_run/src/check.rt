@@ -4,7 +4,7 @@ ghost use Rattle.narc_packet.specs.declared.field.TheConstants.{COUNT};
 ghost use Rattle.narc_run.specs.Job.{Capture, Check};
 ghost use Rattle.narc_run.specs.Output.{check_end, refused_line};
 ghost use Rattle.narc_run.specs.Counting.{AreCounts, counts_lines, refusal_lines};
-ghost use Rattle.narc_run.specs.RightJob.{IsRightFor};
+ghost use Rattle.narc_run.specs.Run.{IsRight, run_of};
 
 use crate::counts::{Counts, NUMBERS};
 use crate::entry::judge_record;
@@ -128,7 +128,7 @@ pub(crate) fn run_check<S: Source, K: Sink, L: Ledger, J: Ledger>(
     sink: &mut K,
     steps: &mut RunSteps<L, J>,
 ) -> Outcome
-    ensures { IsRightFor (Some (Capture Check)) (S.left source.old) (S.left source.new) (K.held sink.old) (K.held sink.new) (S.faults source.old) (S.faults source.new) (K.faults sink.old) (K.faults sink.new) steps.old steps.new result (source.new ≡ source.old) (sink.new ≡ sink.old) }
+    ensures { IsRight (run_of (Some (Capture Check)) (S.left source.old) (S.left source.new) (K.held sink.old) (K.held sink.new) (S.faults source.old) (S.faults source.new) (K.faults sink.old) (K.faults sink.new) steps.old steps.new result.status result.at) (source.new ≡ source.old) (sink.new ≡ sink.old) }
 {
     run_walk(alloc, &mut Counts::new(), source, sink, steps)
 }

@@ -1,6 +1,7 @@
 //! The same call with counts of steps of its own.
-ghost use Rattle.std.specs.Prelude.{◌≡◌, ◌≤◌, ℕ};
-ghost use Rattle.narc_run.specs.Run.{AreCounted, IsPassing, IsRightRun, IsRightWriting, IsUnreadRun, IsUsage, IsWant, WhereTold, WhereUnread};
+ghost use Rattle.std.specs.Prelude.{◌≡◌, ℕ};
+ghost use Rattle.narc_run.specs.Job.{job};
+ghost use Rattle.narc_run.specs.Run.{IsRight};
 
 use crate::command::run;
 use crate::outcome::Outcome;
@@ -31,17 +32,10 @@ pub fn count_run<S: Source, K: Sink, L: Ledger, J: Ledger>(
     requires judging_name { judging.name ≡ J.name }
     requires judging_parts { judging.parts ≡ J.parts }
     requires judging_one { judging.parts ≡ 1 }
-    ensures status { result.outcome.status ≤ 7 }
-    ensures usage { IsUsage words.now result.outcome.status result.outcome.at 0 result.steps (source.new ≡ source.old) }
-    ensures limit { IsPassing words.now result.outcome.status }
-    ensures memory { IsWant words.now result.outcome.status result.outcome.at (source.new ≡ source.old) (sink.new ≡ sink.old) }
-    ensures faults { AreCounted result.outcome.status result.outcome.at (S.faults source.old) (S.faults source.new) (K.faults sink.old) (K.faults sink.new) }
-    ensures unread { WhereUnread words.now (λ u. IsUnreadRun u result.outcome.status result.outcome.at (K.held sink.old) (K.held sink.new) (K.faults sink.old) (K.faults sink.new) 0 result.steps (source.new ≡ source.old)) }
-    ensures writing { IsRightWriting words.now result.outcome.status (K.held sink.old) (K.held sink.new) }
-    ensures octets { WhereTold (S.left source.old) (S.left source.new) (λ input rest. IsRightRun (record {
-      words = words.now;
-      input = input;
-      rest = rest;
+    ensures { IsRight (record {
+      asked = job words.now;
+      left_before = S.left source.old;
+      left_after = S.left source.new;
       held_before = K.held sink.old;
       held_after = K.held sink.new;
       source_before = S.faults source.old;
@@ -52,7 +46,7 @@ pub fn count_run<S: Source, K: Sink, L: Ledger, J: Ledger>(
       steps_after = result.steps;
       status = result.outcome.status;
       at = result.outcome.at;
-    })) }
+    }) (source.new ≡ source.old) (sink.new ≡ sink.old) }
 {
     let mut steps = RunSteps::<L, J>::new(decoding, judging);
     let outcome = run(alloc, words, source, sink, &mut steps);
@@ -74,17 +68,10 @@ pub fn run_counted<S: Source, K: Sink, L: Ledger, J: Ledger>(
     requires judging_name { judging.name ≡ J.name }
     requires judging_parts { judging.parts ≡ J.parts }
     requires judging_one { judging.parts ≡ 1 }
-    ensures status { result.status ≤ 7 }
-    ensures usage { (steps : ℕ) × IsUsage words.now result.status result.at 0 steps (source.new ≡ source.old) }
-    ensures limit { IsPassing words.now result.status }
-    ensures memory { IsWant words.now result.status result.at (source.new ≡ source.old) (sink.new ≡ sink.old) }
-    ensures faults { AreCounted result.status result.at (S.faults source.old) (S.faults source.new) (K.faults sink.old) (K.faults sink.new) }
-    ensures unread { (steps : ℕ) × WhereUnread words.now (λ u. IsUnreadRun u result.status result.at (K.held sink.old) (K.held sink.new) (K.faults sink.old) (K.faults sink.new) 0 steps (source.new ≡ source.old)) }
-    ensures writing { IsRightWriting words.now result.status (K.held sink.old) (K.held sink.new) }
-    ensures octets { (steps : ℕ) × WhereTold (S.left source.old) (S.left source.new) (λ input rest. IsRightRun (record {
-      words = words.now;
-      input = input;
-      rest = rest;
+    ensures { (steps : ℕ) × IsRight (record {
+      asked = job words.now;
+      left_before = S.left source.old;
+      left_after = S.left source.new;
       held_before = K.held sink.old;
       held_after = K.held sink.new;
       source_before = S.faults source.old;
@@ -95,7 +82,7 @@ pub fn run_counted<S: Source, K: Sink, L: Ledger, J: Ledger>(
       steps_after = steps;
       status = result.status;
       at = result.at;
-    })) }
+    }) (source.new ≡ source.old) (sink.new ≡ sink.old) }
 {
     let counted: Counted<L, J> = count_run(alloc, words, source, sink, decoding, judging);
     counted.outcome

@@ -1,15 +1,16 @@
 //! The job `frame`: one raw frame, the whole input.
 ghost use Rattle.std.specs.Prelude.{◌≡◌, ◌+◌, ◌*◌, ◌≤◌, length, IfOk, MatchResult, OnErr};
+ghost use Rattle.narc_bits.specs.Octets.{IsOctets};
 ghost use Rattle.narc_world.specs.Outside.{CountsFaults, IsPushed};
 ghost use Rattle.narc_stack.specs.AnswerView.{answer_view};
 ghost use Rattle.narc_packet.specs.PacketView.{view};
 ghost use Rattle.narc_text.specs.Lines.{ok_line};
 ghost use Rattle.narc_text.specs.Printing.{IsPrinted};
 ghost use Rattle.narc_run.specs.Output.{answer_line, refusal_line};
-ghost use Rattle.narc_run.specs.FrameRun.{FrameRun, IsAnswered, IsCut};
+ghost use Rattle.narc_run.specs.FrameAnswer.{IsAnswered, IsCut};
+ghost use Rattle.narc_run.specs.StreamRun.{StreamRun};
 ghost use Rattle.narc_run.specs.Job.{Frame};
-ghost use Rattle.narc_run.specs.RightJob.{IsRightFor};
-ghost use Rattle.narc_run.specs.Run.{AreCounted};
+ghost use Rattle.narc_run.specs.Run.{AreCounted, IsRight, run_of};
 
 use crate::input::{Filled, fill};
 use crate::outcome::Outcome;
@@ -97,6 +98,14 @@ fn answer_frame<K: Sink, L: Ledger, J: Ledger>(
     }
 }
 
+/// The source failed behind these octets.
+fn source_fault_behind(octets: &[u8]) -> Outcome
+    ensures value { result ≡ record { status = 5; at = length octets.now } }
+    ensures octets { IsOctets octets.now }
+{
+    Outcome::source_fault(octets.len() as u64)
+}
+
 /// Reads the whole input into the buffer, and answers it.
 fn answer_input<S: Source, K: Sink, L: Ledger, J: Ledger>(
     buffer: &mut [u8],
@@ -105,12 +114,11 @@ fn answer_input<S: Source, K: Sink, L: Ledger, J: Ledger>(
     steps: &mut RunSteps<L, J>,
 ) -> Outcome
     requires { length buffer.old ≡ FRAME_BUFFER }
-    ensures run { FrameRun (S.left source.old) (S.left source.new) (K.held sink.old) (K.held sink.new) steps.old steps.new result.status result.at }
-    ensures status { result.status ≤ 6 }
+    ensures run { StreamRun Frame (S.left source.old) (S.left source.new) (K.held sink.old) (K.held sink.new) steps.old steps.new result.status result.at }
     ensures faults { AreCounted result.status result.at (S.faults source.old) (S.faults source.new) (K.faults sink.old) (K.faults sink.new) }
 {
     match fill(buffer, source) {
-        Filled::Failed(count) => Outcome::source_fault(count as u64),
+        Filled::Failed(count) => source_fault_behind(&buffer[..count]),
         Filled::Full => Outcome::malformed(MAX_FRAME as u64),
         Filled::Whole(count) => match answer_frame(&buffer[..count], sink, steps) {
             Ok(outcome) => outcome,
@@ -126,7 +134,7 @@ pub(crate) fn run_frame<S: Source, K: Sink, L: Ledger, J: Ledger>(
     sink: &mut K,
     steps: &mut RunSteps<L, J>,
 ) -> Outcome
-    ensures { IsRightFor (Some Frame) (S.left source.old) (S.left source.new) (K.held sink.old) (K.held sink.new) (S.faults source.old) (S.faults source.new) (K.faults sink.old) (K.faults sink.new) steps.old steps.new result (source.new ≡ source.old) (sink.new ≡ sink.old) }
+    ensures { IsRight (run_of (Some Frame) (S.left source.old) (S.left source.new) (K.held sink.old) (K.held sink.new) (S.faults source.old) (S.faults source.new) (K.faults sink.old) (K.faults sink.new) steps.old steps.new result.status result.at) (source.new ≡ source.old) (sink.new ≡ sink.old) }
 {
     match zeros(alloc, FRAME_BUFFER) {
         Ok(mut buffer) => answer_input(&mut buffer, source, sink, steps),

@@ -5,7 +5,7 @@ ghost use Rattle.narc_text.specs.Printing.{IsPrinted};
 ghost use Rattle.narc_run.specs.Job.{Capture, Show};
 ghost use Rattle.narc_run.specs.Output.{header_line};
 ghost use Rattle.narc_run.specs.Tallies.{tally_line, tally_of};
-ghost use Rattle.narc_run.specs.RightJob.{IsRightFor};
+ghost use Rattle.narc_run.specs.Run.{IsRight, run_of};
 
 use crate::entry::{answer_record, print_record};
 use crate::outcome::Outcome;
@@ -127,7 +127,7 @@ pub(crate) fn run_show<S: Source, K: Sink, L: Ledger, J: Ledger>(
     sink: &mut K,
     steps: &mut RunSteps<L, J>,
 ) -> Outcome
-    ensures { IsRightFor (Some (Capture Show)) (S.left source.old) (S.left source.new) (K.held sink.old) (K.held sink.new) (S.faults source.old) (S.faults source.new) (K.faults sink.old) (K.faults sink.new) steps.old steps.new result (source.new ≡ source.old) (sink.new ≡ sink.old) }
+    ensures { IsRight (run_of (Some (Capture Show)) (S.left source.old) (S.left source.new) (K.held sink.old) (K.held sink.new) (S.faults source.old) (S.faults source.new) (K.faults sink.old) (K.faults sink.new) steps.old steps.new result.status result.at) (source.new ≡ source.old) (sink.new ≡ sink.old) }
 {
     let mut lister = Lister {
         tally: Tally::new(),

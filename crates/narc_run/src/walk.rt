@@ -2,11 +2,10 @@
 ghost use Rattle.std.specs.Prelude.{◌≡◌, ◌≤◌, ◌++◌, [], None, length, IfOk, OnErr};
 ghost use Rattle.narc_world.specs.Outside.{CountsFaults};
 ghost use Rattle.narc_text.specs.Printing.{IsPrinted};
-ghost use Rattle.narc_run.specs.Visiting.{Finishes};
-ghost use Rattle.narc_run.specs.CaptureRun.{CaptureRun, EndsCapture, IsShown};
+ghost use Rattle.narc_run.specs.Visiting.{Closes, Ends, Finishes};
+ghost use Rattle.narc_run.specs.StreamRun.{EndsStream, IsShown, StreamRun};
 ghost use Rattle.narc_run.specs.Job.{Capture};
-ghost use Rattle.narc_run.specs.RightJob.{IsRightFor};
-ghost use Rattle.narc_run.specs.Run.{AreCounted};
+ghost use Rattle.narc_run.specs.Run.{AreCounted, IsRight, run_of};
 
 use crate::outcome::Outcome;
 use crate::steps::RunSteps;
@@ -42,12 +41,36 @@ fn end_early<K: Sink>(outcome: Outcome, page: &mut Page, sink: &mut K) -> Result
     Ok(outcome)
 }
 
+/// Ends a walk where so many octets were taken and no further record was read.
+fn close<V: Visitor, K: Sink>(
+    visitor: &V,
+    last: Next,
+    taken: u64,
+    page: &mut Page,
+    sink: &mut K,
+) -> Result<Outcome, Failed>
+    requires { Ends last }
+    ensures printed { Closes (V.job visitor.now) (V.saw visitor.now) last taken result page.old (K.held sink.old) (K.held sink.new) }
+    ensures status { IfOk result (λ outcome. outcome.status ≡ 6 → ⊥) }
+    ensures source { IfOk result (λ outcome. outcome.status ≡ 5 → last ≡ Next.ReadFault) }
+    ensures faults { CountsFaults (OnErr result) (K.faults sink.old) (K.faults sink.new) }
+{
+    match last {
+        Next::End => finish(visitor, End::Clean, page, sink),
+        Next::Torn(at) => finish(visitor, End::Torn(at), page, sink),
+        Next::Bad(at) => finish(visitor, End::Bad(at), page, sink),
+        Next::ReadFault => end_early(Outcome::source_fault(taken), page, sink),
+        Next::Long => end_early(Outcome::limit(), page, sink),
+        Next::Rec(_) => unreachable!(),
+    }
+}
+
 /// Pushes all that is on the page before a record that has to be pulled, so that who reads sees the lines at once.
 fn tell_waiting<K: Sink>(reader: &Reader, page: &mut Page, sink: &mut K) -> Result<(), Failed>
     ensures printed { IsPrinted result [] page.old page.new (K.held sink.old) (K.held sink.new) }
     ensures faults { CountsFaults (OnErr result) (K.faults sink.old) (K.faults sink.new) }
 {
-    if reader.is_ready() {
+    if page.is_empty() || reader.is_ready() {
         return Ok(());
     }
     page.flush(sink)
@@ -63,9 +86,9 @@ fn walk<V: Visitor, S: Source, K: Sink, L: Ledger, J: Ledger>(
 ) -> Result<Outcome, Failed>
     requires room { LONGEST_RECORD ≤ length input.items }
     requires fresh { V.saw visitor.old None [] }
-    ensures run { CaptureRun (V.job visitor.old) (S.left source.old) (S.left source.new) (K.held sink.old) (K.held sink.new) steps.old steps.new result }
+    ensures run { EndsStream (Capture (V.job visitor.old)) (S.left source.old) (S.left source.new) (K.held sink.old) (K.held sink.new) steps.old steps.new result }
     ensures source_faults { CountsFaults (λ rose. IfOk result (λ outcome. outcome.status ≡ 5 → rose)) (S.faults source.old) (S.faults source.new) }
-    ensures status { IfOk result (λ outcome. (outcome.status ≡ 6 → ⊥) × (outcome.status ≤ 7)) }
+    ensures status { IfOk result (λ outcome. outcome.status ≡ 6 → ⊥) }
     ensures sink_faults { CountsFaults (OnErr result) (K.faults sink.old) (K.faults sink.new) }
 {
     let mut reader = Reader::new(input);
@@ -81,13 +104,7 @@ fn walk<V: Visitor, S: Source, K: Sink, L: Ledger, J: Ledger>(
         tell_waiting(&reader, &mut page, sink)?;
         match reader.next(source) {
             Next::Rec(head) => visitor.record(&head, &mut reader, &mut page, sink, steps)?,
-            Next::End => return finish(visitor, End::Clean, &mut page, sink),
-            Next::Torn(at) => return finish(visitor, End::Torn(at), &mut page, sink),
-            Next::Bad(at) => return finish(visitor, End::Bad(at), &mut page, sink),
-            Next::ReadFault => {
-                return end_early(Outcome::source_fault(reader.taken()), &mut page, sink);
-            }
-            Next::Long => return end_early(Outcome::limit(), &mut page, sink),
+            last => return close(visitor, last, reader.taken(), &mut page, sink),
         }
     }
 }
@@ -102,8 +119,7 @@ fn walk_to_end<V: Visitor, S: Source, K: Sink, L: Ledger, J: Ledger>(
 ) -> Outcome
     requires room { LONGEST_RECORD ≤ length input.items }
     requires fresh { V.saw visitor.old None [] }
-    ensures run { EndsCapture (V.job visitor.old) (S.left source.old) (S.left source.new) (K.held sink.old) (K.held sink.new) steps.old steps.new result }
-    ensures status { result.status ≤ 7 }
+    ensures run { StreamRun (Capture (V.job visitor.old)) (S.left source.old) (S.left source.new) (K.held sink.old) (K.held sink.new) steps.old steps.new result.status result.at }
     ensures faults { AreCounted result.status result.at (S.faults source.old) (S.faults source.new) (K.faults sink.old) (K.faults sink.new) }
 {
     match walk(visitor, input, source, sink, steps) {
@@ -121,7 +137,7 @@ pub(crate) fn run_walk<V: Visitor, S: Source, K: Sink, L: Ledger, J: Ledger>(
     steps: &mut RunSteps<L, J>,
 ) -> Outcome
     requires { V.saw visitor.old None [] }
-    ensures { IsRightFor (Some (Capture (V.job visitor.old))) (S.left source.old) (S.left source.new) (K.held sink.old) (K.held sink.new) (S.faults source.old) (S.faults source.new) (K.faults sink.old) (K.faults sink.new) steps.old steps.new result (source.new ≡ source.old) (sink.new ≡ sink.old) }
+    ensures { IsRight (run_of (Some (Capture (V.job visitor.old))) (S.left source.old) (S.left source.new) (K.held sink.old) (K.held sink.new) (S.faults source.old) (S.faults source.new) (K.faults sink.old) (K.faults sink.new) steps.old steps.new result.status result.at) (source.new ≡ source.old) (sink.new ≡ sink.old) }
 {
     match zeros(alloc, INPUT_BUFFER) {
         Ok(input) => walk_to_end(visitor, input, source, sink, steps),

@@ -1,42 +1,57 @@
-use Rattle.std.proofs.Common.{refl, ap, ◌∙◌}
+use Rattle.std.proofs.Common.{◌≡◌, Option, refl, sym, ap, subst}
 use Rattle.narc_run.specs.declared.job.Job.TheVariants as variant
-use Rattle.narc_run.specs.Job.{Trial, Version}
+use Rattle.narc_run.specs.Job.{Job, Trial, Version}
 use Rattle.narc_run.specs.JobView.{job_view}
+use Rattle.narc_run.specs.Run.{IsRight, run_of}
 use Rattle.narc_run.proofs.Jobs.{asked_as}
 use Rattle.narc_run.proofs.RightJobs.{right_usage}
 use Rattle.narc_run.proofs.UnreadRuns.{right_unread, version-later}
 use Rattle.narc_run.proofs.command.run_job.Goals as goal
 
 pub returns-in-None : goal.returns-in-None
-returns-in-None g c = λ words asked.
-    right_usage (g.S.Source.left c.args.source.now) (g.K.Sink.held c.args.sink.now) (g.K.Sink.held c.run_usage.new.sink) (g.S.Source.faults c.args.source.now) (g.K.Sink.faults c.args.sink.now) (g.K.Sink.faults c.run_usage.new.sink)
-    c.args.steps.now c.run_usage.result c.run_usage.ensures _ _ refl words (asked ∙ ap job_view c.in-None.is)
+returns-in-None g c =
+    subst (λ (asked : Option Job). IsRight (run_of asked (g.S.Source.left c.args.source.now) (g.S.Source.left c.args.source.now) (g.K.Sink.held c.args.sink.now) (g.K.Sink.held c.run_usage.new.sink)
+    (g.S.Source.faults c.args.source.now) (g.S.Source.faults c.args.source.now) (g.K.Sink.faults c.args.sink.now) (g.K.Sink.faults c.run_usage.new.sink)
+    c.args.steps.now c.args.steps.now c.run_usage.result.status c.run_usage.result.at) (c.args.source.now ≡ c.args.source.now) (c.run_usage.new.sink ≡ c.args.sink.now)) (sym (ap job_view c.in-None.is))
+    (right_usage (g.S.Source.left c.args.source.now) (g.K.Sink.held c.args.sink.now) (g.K.Sink.held c.run_usage.new.sink) (g.S.Source.faults c.args.source.now) (g.K.Sink.faults c.args.sink.now) (g.K.Sink.faults c.run_usage.new.sink)
+    c.args.steps.now c.run_usage.result c.run_usage.ensures _ _ refl)
 
 pub returns-in-Some-Frame : goal.returns-in-Some-Frame
-returns-in-Some-Frame g c = λ words asked.
+returns-in-Some-Frame g c =
     let same = rw c.in-Some-Frame.is at c.in-Some-Frame.field-0-is in
-    c.run_frame.ensures words (asked_as _ _ c.in-Some-Frame.field-0 variant.Frame asked c.in-Some-Frame.is same)
+    subst (λ (asked : Option Job). IsRight (run_of asked (g.S.Source.left c.args.source.now) (g.S.Source.left c.run_frame.new.source) (g.K.Sink.held c.args.sink.now) (g.K.Sink.held c.run_frame.new.sink)
+    (g.S.Source.faults c.args.source.now) (g.S.Source.faults c.run_frame.new.source) (g.K.Sink.faults c.args.sink.now) (g.K.Sink.faults c.run_frame.new.sink)
+    c.args.steps.now c.run_frame.new.steps c.run_frame.result.status c.run_frame.result.at) (c.run_frame.new.source ≡ c.args.source.now) (c.run_frame.new.sink ≡ c.args.sink.now)) (asked_as _ c.in-Some-Frame.field-0 variant.Frame c.in-Some-Frame.is same) c.run_frame.ensures
 
 pub returns-in-Some-Show : goal.returns-in-Some-Show
-returns-in-Some-Show g c = λ words asked.
+returns-in-Some-Show g c =
     let same = rw c.in-Some-Show.is at c.in-Some-Show.field-0-is in
-    c.run_show.ensures words (asked_as _ _ c.in-Some-Show.field-0 variant.Show asked c.in-Some-Show.is same)
+    subst (λ (asked : Option Job). IsRight (run_of asked (g.S.Source.left c.args.source.now) (g.S.Source.left c.run_show.new.source) (g.K.Sink.held c.args.sink.now) (g.K.Sink.held c.run_show.new.sink)
+    (g.S.Source.faults c.args.source.now) (g.S.Source.faults c.run_show.new.source) (g.K.Sink.faults c.args.sink.now) (g.K.Sink.faults c.run_show.new.sink)
+    c.args.steps.now c.run_show.new.steps c.run_show.result.status c.run_show.result.at) (c.run_show.new.source ≡ c.args.source.now) (c.run_show.new.sink ≡ c.args.sink.now)) (asked_as _ c.in-Some-Show.field-0 variant.Show c.in-Some-Show.is same) c.run_show.ensures
 
 pub returns-in-Some-Check : goal.returns-in-Some-Check
-returns-in-Some-Check g c = λ words asked.
+returns-in-Some-Check g c =
     let same = rw c.in-Some-Check.is at c.in-Some-Check.field-0-is in
-    c.run_check.ensures words (asked_as _ _ c.in-Some-Check.field-0 variant.Check asked c.in-Some-Check.is same)
+    subst (λ (asked : Option Job). IsRight (run_of asked (g.S.Source.left c.args.source.now) (g.S.Source.left c.run_check.new.source) (g.K.Sink.held c.args.sink.now) (g.K.Sink.held c.run_check.new.sink)
+    (g.S.Source.faults c.args.source.now) (g.S.Source.faults c.run_check.new.source) (g.K.Sink.faults c.args.sink.now) (g.K.Sink.faults c.run_check.new.sink)
+    c.args.steps.now c.run_check.new.steps c.run_check.result.status c.run_check.result.at) (c.run_check.new.source ≡ c.args.source.now) (c.run_check.new.sink ≡ c.args.sink.now)) (asked_as _ c.in-Some-Check.field-0 variant.Check c.in-Some-Check.is same) c.run_check.ensures
 
 pub returns-in-Some-Trial : goal.returns-in-Some-Trial
-returns-in-Some-Trial g c = λ words asked.
+returns-in-Some-Trial g c =
     let same = rw c.in-Some-Trial.is at c.in-Some-Trial.field-0-is in
-    right_unread (Trial c.in-Some-Trial.seed c.in-Some-Trial.count) (g.S.Source.left c.args.source.now) (g.K.Sink.held c.args.sink.now) (g.K.Sink.held c.run_trial.new.sink)
-    (g.S.Source.faults c.args.source.now) (g.K.Sink.faults c.args.sink.now) (g.K.Sink.faults c.run_trial.new.sink) c.args.steps.now c.run_trial.new.steps c.run_trial.result _ _
-    c.run_trial.ensures refl words (asked_as _ _ c.in-Some-Trial.field-0 (variant.Trial c.in-Some-Trial.seed c.in-Some-Trial.count) asked c.in-Some-Trial.is same)
+    subst (λ (asked : Option Job). IsRight (run_of asked (g.S.Source.left c.args.source.now) (g.S.Source.left c.args.source.now) (g.K.Sink.held c.args.sink.now) (g.K.Sink.held c.run_trial.new.sink)
+    (g.S.Source.faults c.args.source.now) (g.S.Source.faults c.args.source.now) (g.K.Sink.faults c.args.sink.now) (g.K.Sink.faults c.run_trial.new.sink)
+    c.args.steps.now c.run_trial.new.steps c.run_trial.result.status c.run_trial.result.at) (c.args.source.now ≡ c.args.source.now) (c.run_trial.new.sink ≡ c.args.sink.now)) (asked_as _ c.in-Some-Trial.field-0 (variant.Trial c.in-Some-Trial.seed c.in-Some-Trial.count) c.in-Some-Trial.is same)
+    (right_unread (Trial c.in-Some-Trial.seed c.in-Some-Trial.count) (g.S.Source.left c.args.source.now) (g.K.Sink.held c.args.sink.now) (g.K.Sink.held c.run_trial.new.sink)
+    (g.S.Source.faults c.args.source.now) (g.K.Sink.faults c.args.sink.now) (g.K.Sink.faults c.run_trial.new.sink) c.args.steps.now c.run_trial.new.steps c.run_trial.result _ _ c.run_trial.ensures refl)
 
 pub returns-in-Some-Version : goal.returns-in-Some-Version
-returns-in-Some-Version g c = λ words asked.
+returns-in-Some-Version g c =
     let same = rw c.in-Some-Version.is at c.in-Some-Version.field-0-is in
-    right_unread Version (g.S.Source.left c.args.source.now) (g.K.Sink.held c.args.sink.now) (g.K.Sink.held c.run_version.new.sink)
+    subst (λ (asked : Option Job). IsRight (run_of asked (g.S.Source.left c.args.source.now) (g.S.Source.left c.args.source.now) (g.K.Sink.held c.args.sink.now) (g.K.Sink.held c.run_version.new.sink)
+    (g.S.Source.faults c.args.source.now) (g.S.Source.faults c.args.source.now) (g.K.Sink.faults c.args.sink.now) (g.K.Sink.faults c.run_version.new.sink)
+    c.args.steps.now c.args.steps.now c.run_version.result.status c.run_version.result.at) (c.args.source.now ≡ c.args.source.now) (c.run_version.new.sink ≡ c.args.sink.now)) (asked_as _ c.in-Some-Version.field-0 variant.Version c.in-Some-Version.is same)
+    (right_unread Version (g.S.Source.left c.args.source.now) (g.K.Sink.held c.args.sink.now) (g.K.Sink.held c.run_version.new.sink)
     (g.S.Source.faults c.args.source.now) (g.K.Sink.faults c.args.sink.now) (g.K.Sink.faults c.run_version.new.sink) c.args.steps.now c.args.steps.now c.run_version.result _ _
-    (version-later _ _ _ _ c.args.steps.now c.run_version.result _ c.run_version.ensures) refl words (asked_as _ _ c.in-Some-Version.field-0 variant.Version asked c.in-Some-Version.is same)
+    (version-later _ _ _ _ c.args.steps.now c.run_version.result _ c.run_version.ensures) refl)

@@ -1,5 +1,5 @@
 use Rattle.std.proofs.Common.{sym}
 use Rattle.narc_run.proofs.counted.count_run.Goals as goal
 
-pub returns-clause-octets : goal.returns-clause-octets
-returns-clause-octets g c = rw (sym c.new-steps.ensures) c.run-outcome.ensures.octets
+pub returns : goal.returns
+returns g c = rw (sym c.new-steps.ensures) c.run-outcome.ensures

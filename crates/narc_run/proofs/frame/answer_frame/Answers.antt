@@ -2,7 +2,7 @@ use Rattle.std.proofs.Common.{sym, subst}
 use Rattle.std.specs.Prelude.{MatchResult}
 use Rattle.narc_stack.specs.AnswerView.{answer_view}
 use Rattle.narc_run.specs.Verdict.{answer_verdict}
-use Rattle.narc_run.specs.FrameRun.{IsAnswered, IsCut}
+use Rattle.narc_run.specs.FrameAnswer.{IsAnswered, IsCut}
 use Rattle.narc_run.proofs.FrameAnswers.{IsAnswered-whole, IsCut-front, MatchResult-failed}
 use Rattle.narc_run.proofs.frame.answer_frame.Goals.{in-Ok, in-Err}
 use Rattle.narc_run.proofs.frame.answer_frame.Goals as goal

@@ -1,21 +1,20 @@
-use Rattle.std.proofs.Common.{◌≡◌, ◌+◌, ◌≤◌, [], ◌∷◌, ◌++◌, Some, inl, inr, length, refl, sym, ap, ◌∙◌, subst, append-nil, arith}
+use Rattle.std.proofs.Common.{◌≡◌, ℕ, ◌+◌, ◌≤◌, [], ◌∷◌, ◌++◌, Some, inl, inr, length, refl, sym, ap, ◌∙◌, subst, append-nil, arith}
 use Rattle.narc_text.specs.Printing.{Passes, Stops}
 use Rattle.narc_pcap.specs.declared.limit.TheConstants.{CAPTURE_LIMIT}
 use Rattle.narc_pcap.specs.declared.header.Header.{Header}
-use Rattle.narc_pcap.specs.declared.record.End.TheVariants.{Clean, Torn, Bad}
+use Rattle.narc_pcap.specs.declared.record.End.TheVariants.{Torn, Bad}
 use Rattle.narc_pcap.specs.Reading.{Reading}
 use Rattle.narc_pcap.proofs.Cuts.{capture-torn, capture-bad}
 use Rattle.narc_run.specs.declared.outcome.Outcome.{Outcome}
 use Rattle.narc_run.specs.Job.{CaptureJob}
 use Rattle.narc_run.specs.Output.{capture_body, header_text, record_text}
 use Rattle.narc_run.specs.Run.{WroteFront}
-use Rattle.narc_run.specs.CaptureRun.{IsShown}
-use Rattle.narc_run.specs.Verdict.{Verdict, verdict_of}
-use Rattle.narc_run.specs.Visiting.{Finishes, told_as}
+use Rattle.narc_run.specs.Verdict.{verdict_of}
+use Rattle.narc_run.specs.Visiting.{Closes, told_as}
 use Rattle.narc_text.proofs.Printings.{Appends-nil}
 use Rattle.narc_run.proofs.Walks.{read_record}
 use Rattle.narc_run.proofs.CaptureSoFar.{read_start, frame_fits, headless_broken}
-use Rattle.narc_run.proofs.Visits.{read_kept, headless, ended, broke, overran, stopped_by, front_stopped, cut_page, cut_whole, body_more, passes_on, passes_same, has_room}
+use Rattle.narc_run.proofs.Visits.{read_kept, headless, closed, stopped_by, front_stopped, cut_page, cut_whole, body_more, passes_on, passes_same, has_room}
 use Rattle.narc_run.proofs.walk.walk.Goals as goal
 
 pub returns-in-Torn-clause-run : goal.returns-in-Torn-clause-run
@@ -170,86 +169,19 @@ returns-in_err-record-in-Rec-clause-run g c =
     (subst (λ l. WroteFront l a f) (body_more j reader.header now.header told t passes.header) cut)
     c.from_residual-in_err-record-in-Rec.result c.from_residual-in_err-record-in-Rec.ensures.0
 
-pub returns-in-End-clause-run : goal.returns-in-End-clause-run
-returns-in-End-clause-run g c =
+pub returns-in_default-clause-run : goal.returns-in_default-clause-run
+returns-in_default-clause-run g c =
     let i = c.records.invariant in
     let j = g.V.Visitor.job c.args.visitor.now in
     let saw = g.V.Visitor.saw c.records.visitor in
     let a = g.K.Sink.held c.args.sink.now in
     let b = g.K.Sink.held c.records.sink in
     let d = g.K.Sink.held c.tell_waiting.new.sink in
-    let f = g.K.Sink.held c.finish-in-End.new.sink in
+    let f = g.K.Sink.held c.close.new.sink in
     let page = c.tell_waiting.new.page in
-    let found = c.in-End.ensures.next in
-    let result = c.finish-in-End.result in
-    ended j saw c.records.reader c.next.new.self page (g.S.Source.left c.args.source.now) (g.S.Source.left c.records.source) (g.S.Source.left c.next.new.source)
+    let last = c.next.result in
+    closed j saw c.records.reader c.next.new.self page (g.S.Source.left c.args.source.now) (g.S.Source.left c.records.source) (g.S.Source.left c.next.new.source)
     a d f c.args.steps.now c.records.steps (i.so_far).read
     (passes_same (capture_body j (Some c.records.reader.header) ((i.so_far).read).told) c.records.page page a b d (i.so_far).printed c.in_ok-tell_waiting.ensures.printed)
-    (i.so_far).saw Clean found.0 found.1 c.in-End.ensures.reach (inl found.2) result
-    (subst (λ (j : CaptureJob). Finishes j saw Clean result page d f) i.job c.finish-in-End.ensures.printed)
-
-pub returns-in-Torn-next-clause-run : goal.returns-in-Torn-next-clause-run
-returns-in-Torn-next-clause-run g c =
-    let i = c.records.invariant in
-    let j = g.V.Visitor.job c.args.visitor.now in
-    let saw = g.V.Visitor.saw c.records.visitor in
-    let a = g.K.Sink.held c.args.sink.now in
-    let b = g.K.Sink.held c.records.sink in
-    let d = g.K.Sink.held c.tell_waiting.new.sink in
-    let f = g.K.Sink.held c.finish-in-Torn-next.new.sink in
-    let page = c.tell_waiting.new.page in
-    let found = c.in-Torn-next.ensures.next in
-    let result = c.finish-in-Torn-next.result in
-    ended j saw c.records.reader c.next.new.self page (g.S.Source.left c.args.source.now) (g.S.Source.left c.records.source) (g.S.Source.left c.next.new.source)
-    a d f c.args.steps.now c.records.steps (i.so_far).read
-    (passes_same (capture_body j (Some c.records.reader.header) ((i.so_far).read).told) c.records.page page a b d (i.so_far).printed c.in_ok-tell_waiting.ensures.printed)
-    (i.so_far).saw (Torn c.in-Torn-next.at) found.0 found.1 c.in-Torn-next.ensures.reach (inl found.2) result
-    (subst (λ (j : CaptureJob). Finishes j saw (Torn c.in-Torn-next.at) result page d f) i.job c.finish-in-Torn-next.ensures.printed)
-
-pub returns-in-Bad-next-clause-run : goal.returns-in-Bad-next-clause-run
-returns-in-Bad-next-clause-run g c =
-    let i = c.records.invariant in
-    let j = g.V.Visitor.job c.args.visitor.now in
-    let saw = g.V.Visitor.saw c.records.visitor in
-    let a = g.K.Sink.held c.args.sink.now in
-    let b = g.K.Sink.held c.records.sink in
-    let d = g.K.Sink.held c.tell_waiting.new.sink in
-    let f = g.K.Sink.held c.finish-in-Bad-next.new.sink in
-    let page = c.tell_waiting.new.page in
-    let found = c.in-Bad-next.ensures.next in
-    let result = c.finish-in-Bad-next.result in
-    ended j saw c.records.reader c.next.new.self page (g.S.Source.left c.args.source.now) (g.S.Source.left c.records.source) (g.S.Source.left c.next.new.source)
-    a d f c.args.steps.now c.records.steps (i.so_far).read
-    (passes_same (capture_body j (Some c.records.reader.header) ((i.so_far).read).told) c.records.page page a b d (i.so_far).printed c.in_ok-tell_waiting.ensures.printed)
-    (i.so_far).saw (Bad c.in-Bad-next.at) found.0 found.1 c.in-Bad-next.ensures.reach (inr refl) result
-    (subst (λ (j : CaptureJob). Finishes j saw (Bad c.in-Bad-next.at) result page d f) i.job c.finish-in-Bad-next.ensures.printed)
-
-pub returns-in-ReadFault-next-clause-run : goal.returns-in-ReadFault-next-clause-run
-returns-in-ReadFault-next-clause-run g c =
-    let i = c.records.invariant in
-    let j = g.V.Visitor.job c.args.visitor.now in
-    let a = g.K.Sink.held c.args.sink.now in
-    let b = g.K.Sink.held c.records.sink in
-    let d = g.K.Sink.held c.tell_waiting.new.sink in
-    let f = g.K.Sink.held c.end_early.new.sink in
-    let page = c.tell_waiting.new.page in
-    let found = c.in-ReadFault-next.ensures.next in
-    broke j (g.V.Visitor.saw c.records.visitor) c.records.reader c.next.new.self page (g.S.Source.left c.args.source.now) (g.S.Source.left c.records.source) (g.S.Source.left c.next.new.source)
-    a d f c.args.steps.now c.records.steps (i.so_far).read
-    (passes_same (capture_body j (Some c.records.reader.header) ((i.so_far).read).told) c.records.page page a b d (i.so_far).printed c.in_ok-tell_waiting.ensures.printed)
-    found.0 found.1 c.in-ReadFault-next.ensures.reach c.end_early.result (subst (λ (v : Verdict). IsShown c.end_early.result page v d f) (ap (λ (o : Outcome). verdict_of o.status o.at) c.source_fault-in-ReadFault-next.ensures ∙ ap (λ n. verdict_of 5 n) c.taken-in-ReadFault-next.ensures.count) c.end_early.ensures.printed)
-
-pub returns-in-Long-clause-run : goal.returns-in-Long-clause-run
-returns-in-Long-clause-run g c =
-    let i = c.records.invariant in
-    let j = g.V.Visitor.job c.args.visitor.now in
-    let a = g.K.Sink.held c.args.sink.now in
-    let b = g.K.Sink.held c.records.sink in
-    let d = g.K.Sink.held c.tell_waiting.new.sink in
-    let f = g.K.Sink.held c.end_early-in-Long.new.sink in
-    let page = c.tell_waiting.new.page in
-    let found = c.in-Long.ensures.next in
-    overran j (g.V.Visitor.saw c.records.visitor) c.records.reader c.next.new.self page (g.S.Source.left c.args.source.now) (g.S.Source.left c.records.source) (g.S.Source.left c.next.new.source)
-    a d f c.args.steps.now c.records.steps (i.so_far).read
-    (passes_same (capture_body j (Some c.records.reader.header) ((i.so_far).read).told) c.records.page page a b d (i.so_far).printed c.in_ok-tell_waiting.ensures.printed)
-    found.0 found.1 c.end_early-in-Long.result (subst (λ (v : Verdict). IsShown c.end_early-in-Long.result page v d f) (ap (λ (o : Outcome). verdict_of o.status o.at) c.limit.ensures) c.end_early-in-Long.ensures.printed)
+    (i.so_far).saw last c.next.ensures.next c.next.ensures.reach c.close.result
+    (subst (λ (n : ℕ). Closes j saw last n c.close.result page d f) c.taken-in_default.ensures.count (subst (λ (j : CaptureJob). Closes j saw last c.taken-in_default.result c.close.result page d f) i.job c.close.ensures.printed))
