@@ -1,7 +1,10 @@
 //! Tests, by what they are about.
+mod again;
 mod captures;
+mod line_reader;
 mod lines;
 mod memory;
+mod reading;
 mod std_sink;
 mod std_source;
 mod texts;

@@ -13,4 +13,5 @@ pub mod BlockLoops
 pub mod SamePackets
 pub mod WordsApart
 pub mod PacketWords
+pub mod PacketsApart
 pub mod LineWords

@@ -7,7 +7,7 @@ use Rattle.narc_packet.specs.WellFormed.{FitArea}
 use Rattle.narc_packet.specs.TextWords.{list_word}
 use Rattle.narc_reading.specs.Parts.{parts_of}
 use Rattle.narc_reading.specs.Reading.{IsNoOption}
-use Rattle.narc_reading.proofs.Separated.{Lacks, parts_of-join, join-parts_of}
+use Rattle.narc_reading.proofs.Separated.{Lacks, Lacks-each, parts_of-join, join-parts_of}
 
 -- what reading needs of the words of options
 pub record HaveWords {O : Type 0} (word_of : O → List ℕ) (IsOption : O → Type 0) : Type 0 where
@@ -54,8 +54,7 @@ FitArea-front spelling IsOption front o more fits = record {
 }
 
 pub lacks-each : {O : Type 0} (word_of : O → List ℕ) (IsOption : O → Type 0) → HaveWords word_of IsOption → (options : List O) → AllByRecursion IsOption options → AllByRecursion (Lacks 44) (map word_of options)
-lacks-each word_of IsOption readable [] each = tt
-lacks-each word_of IsOption readable (o ∷ options) each = (readable.lacks o each.0, lacks-each word_of IsOption readable options each.1)
+lacks-each word_of IsOption readable options each = Lacks-each 44 word_of IsOption readable.lacks options each
 
 -- the words of options are the parts of their text
 pub list-parts : {O : Type 0} (word_of : O → List ℕ) (IsOption : O → Type 0) → HaveWords word_of IsOption → (word : List ℕ) (options : List O) → AllByRecursion IsOption options → word ≢ codes "-"

@@ -18,22 +18,11 @@ use Rattle.narc_reading.specs.declared.error.BadLine.{BadLine}
 use Rattle.narc_reading.specs.declared.parts.Separator.{Separator}
 use Rattle.narc_reading.specs.declared.parts.Separator.TheVariants.{Space, Comma, Slash, Colon}
 use Rattle.narc_reading.proofs.DigitLanes.{octets_of-encode_lower}
-use Rattle.narc_reading.proofs.Separated.{Lacks, Lacks-hex_word, lacks-dash, parts_of-join, join-parts_of}
+use Rattle.narc_reading.proofs.Separated.{Lacks, Lacks-append, Lacks-each, Lacks-join, Lacks-hex_word, lacks-dash, parts_of-join, join-parts_of}
 use Rattle.narc_reading.proofs.WordParts.{Lacks-decimal, lacks-dash-decimal}
 use Rattle.narc_reading.proofs.OptionNames.{nop-only, mss-only, scale-only, permitted-only, sack-only, times-only, opt-only}
 use Rattle.narc_reading.proofs.Refusals.{first, others}
 use Rattle.narc_reading.proofs.OptionLoops.{HaveWords}
-
--- octets joined by a separator
-pub append-lacks : (separator : ℕ) (a b : List ℕ) → Lacks separator a → Lacks separator b → Lacks separator (a ++ b)
-append-lacks separator [] b m n = n
-append-lacks separator (o ∷ a) b m n = (m.0, append-lacks separator a b m.1 n)
-
-lacks-joined : (separator between : ℕ) → (between == separator) ≡ false → (parts : List (List ℕ)) → AllByRecursion (Lacks separator) parts → Lacks separator (join_with_byte between parts)
-lacks-joined separator between other [] each = tt
-lacks-joined separator between other (part ∷ []) each = each.0
-lacks-joined separator between other (part ∷ next ∷ parts) each =
-    append-lacks separator part (between ∷ join_with_byte between (next ∷ parts)) each.0 (other, lacks-joined separator between other (next ∷ parts) each.1)
 
 -- a separator that is in no name of an option, and stands between no blocks
 pub record IsOutside (separator : Separator) : Type 0 where
@@ -76,15 +65,14 @@ IsOutside-space = record {
 -- a block, and blocks
 pub lacks-block : (separator : Separator) (block : SackBlock) → IsSackBlock block → Lacks (octet_of separator) (block_word block)
 lacks-block separator block is =
-    append-lacks (octet_of separator) (decimal block.left ++ codes "-") (decimal block.right)
-    (append-lacks (octet_of separator) (decimal block.left) (codes "-") (Lacks-decimal separator block.left (omega (arith, is.0))) (lacks-dash separator)) (Lacks-decimal separator block.right (omega (arith, is.1)))
+    Lacks-append (octet_of separator) (decimal block.left ++ codes "-") (decimal block.right)
+    (Lacks-append (octet_of separator) (decimal block.left) (codes "-") (Lacks-decimal separator block.left (omega (arith, is.0))) (lacks-dash separator)) (Lacks-decimal separator block.right (omega (arith, is.1)))
 
 pub lacks-each-block : (separator : Separator) (blocks : List SackBlock) → AllByRecursion IsSackBlock blocks → AllByRecursion (Lacks (octet_of separator)) (map block_word blocks)
-lacks-each-block separator [] each = tt
-lacks-each-block separator (block ∷ blocks) each = (lacks-block separator block each.0, lacks-each-block separator blocks each.1)
+lacks-each-block separator blocks each = Lacks-each (octet_of separator) block_word IsSackBlock (lacks-block separator) blocks each
 
 lacks-blocks : (separator : Separator) → (47 == octet_of separator) ≡ false → (blocks : List SackBlock) → AllByRecursion IsSackBlock blocks → Lacks (octet_of separator) (blocks_word blocks)
-lacks-blocks separator other blocks each = lacks-joined (octet_of separator) 47 other (map block_word blocks) (lacks-each-block separator blocks each)
+lacks-blocks separator other blocks each = Lacks-join (octet_of separator) 47 other (map block_word blocks) (lacks-each-block separator blocks each)
 
 join-option : (o : TcpOptionView) → tcp_option_word o ≡ join_with_byte 58 (option_name o ∷ option_rest o)
 join-option TcpNop = refl
@@ -211,17 +199,17 @@ ip_option_word-injective a b m n e =
 -- it is in no word of an option
 pub lacks-word : (separator : Separator) → IsOutside separator → (o : TcpOptionView) → IsTextOption o → Lacks (octet_of separator) (tcp_option_word o)
 lacks-word separator out TcpNop is = out.nop
-lacks-word separator out (TcpMss size) is = append-lacks (octet_of separator) (codes "mss:") (decimal size) out.mss (Lacks-decimal separator size (omega (arith, is)))
-lacks-word separator out (TcpScale shift) is = append-lacks (octet_of separator) (codes "scale:") (decimal shift) out.scale (Lacks-decimal separator shift (omega (arith, is)))
+lacks-word separator out (TcpMss size) is = Lacks-append (octet_of separator) (codes "mss:") (decimal size) out.mss (Lacks-decimal separator size (omega (arith, is)))
+lacks-word separator out (TcpScale shift) is = Lacks-append (octet_of separator) (codes "scale:") (decimal shift) out.scale (Lacks-decimal separator shift (omega (arith, is)))
 lacks-word separator out TcpSackOk is = out.sackok
-lacks-word separator out (TcpSack blocks) is = append-lacks (octet_of separator) (codes "sack:") (blocks_word blocks) out.sack (lacks-blocks separator out.slash blocks is.2)
+lacks-word separator out (TcpSack blocks) is = Lacks-append (octet_of separator) (codes "sack:") (blocks_word blocks) out.sack (lacks-blocks separator out.slash blocks is.2)
 lacks-word separator out (TcpTimes value echo) is =
-    append-lacks (octet_of separator) ((codes "ts:" ++ decimal value) ++ codes ":") (decimal echo)
-    (append-lacks (octet_of separator) (codes "ts:" ++ decimal value) (codes ":") (append-lacks (octet_of separator) (codes "ts:") (decimal value) out.times (Lacks-decimal separator value (omega (arith, is.0)))) out.colon)
+    Lacks-append (octet_of separator) ((codes "ts:" ++ decimal value) ++ codes ":") (decimal echo)
+    (Lacks-append (octet_of separator) (codes "ts:" ++ decimal value) (codes ":") (Lacks-append (octet_of separator) (codes "ts:") (decimal value) out.times (Lacks-decimal separator value (omega (arith, is.0)))) out.colon)
     (Lacks-decimal separator echo (omega (arith, is.1)))
 lacks-word separator out (TcpOther kind octets) is =
-    append-lacks (octet_of separator) ((codes "opt:" ++ decimal kind) ++ codes ":") (hex_word octets)
-    (append-lacks (octet_of separator) (codes "opt:" ++ decimal kind) (codes ":") (append-lacks (octet_of separator) (codes "opt:") (decimal kind) out.opt (Lacks-decimal separator kind (omega (arith, is.0)))) out.colon)
+    Lacks-append (octet_of separator) ((codes "opt:" ++ decimal kind) ++ codes ":") (hex_word octets)
+    (Lacks-append (octet_of separator) (codes "opt:" ++ decimal kind) (codes ":") (Lacks-append (octet_of separator) (codes "opt:") (decimal kind) out.opt (Lacks-decimal separator kind (omega (arith, is.0)))) out.colon)
     (Lacks-hex_word separator octets is.1.0)
 
 pub tcp-readable : HaveWords tcp_option_word IsTcpOption

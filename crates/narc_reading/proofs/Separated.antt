@@ -1,5 +1,5 @@
 -- Octets between separators.
-use Rattle.std.proofs.Common.{Result, Ok, Err, ◌/◌, ◌%◌, codes, rules, ◌≡◌, ◌≢◌, ℕ, ◌+◌, ◌<◌, ◌≤◌, Bool, true, false, not, IsTrue, ◌==◌, List, [], ◌∷◌, ◌++◌, length, get_or, take, drop, Option, None, Some, refl, sym, ap, ◌∙◌, arith, take-append-drop, length-take}
+use Rattle.std.proofs.Common.{Result, Ok, Err, ◌/◌, ◌%◌, codes, rules, ◌≡◌, ◌≢◌, ℕ, ◌+◌, ◌<◌, ◌≤◌, Bool, true, false, not, IsTrue, ◌==◌, List, [], ◌∷◌, ◌++◌, length, map, get_or, take, drop, Option, None, Some, refl, sym, ap, ◌∙◌, arith, take-append-drop, length-take}
 use Rattle.std.specs.Borrow.{Bor}
 use Rattle.std.specs.List.{AllByRecursion, join_with_byte}
 use Rattle.std.specs.Prelude.{is_some}
@@ -25,6 +25,22 @@ test-other a b other = grind (arith, nat_tests)
 
 test-same : (a : ℕ) → (a == a) ≡ true
 test-same a = grind (arith, nat_tests)
+
+pub Lacks-append : (separator : ℕ) (a b : List ℕ) → Lacks separator a → Lacks separator b → Lacks separator (a ++ b)
+Lacks-append separator [] b m n = n
+Lacks-append separator (o ∷ a) b m n = (m.0, Lacks-append separator a b m.1 n)
+
+-- parts that are joined by another octet
+pub Lacks-join : (separator between : ℕ) → (between == separator) ≡ false → (parts : List (List ℕ)) → AllByRecursion (Lacks separator) parts → Lacks separator (join_with_byte between parts)
+Lacks-join separator between other [] each = tt
+Lacks-join separator between other (part ∷ []) each = each.0
+Lacks-join separator between other (part ∷ next ∷ parts) each =
+    Lacks-append separator part (between ∷ join_with_byte between (next ∷ parts)) each.0 (other, Lacks-join separator between other (next ∷ parts) each.1)
+
+pub Lacks-each : {V : Type 0} (separator : ℕ) (word_of : V → List ℕ) (IsValue : V → Type 0) → ((v : V) → IsValue v → Lacks separator (word_of v)) → (values : List V) → AllByRecursion IsValue values
+    → AllByRecursion (Lacks separator) (map word_of values)
+Lacks-each separator word_of IsValue lacks [] each = tt
+Lacks-each separator word_of IsValue lacks (v ∷ values) each = (lacks v each.0, Lacks-each separator word_of IsValue lacks values each.1)
 
 pub parts_of-none : (separator : ℕ) (octets : List ℕ) → Lacks separator octets → parts_of separator octets ≡ octets ∷ []
 parts_of-none separator octets lacks = slice_split_none (λ octet. octet == separator) octets (All-from_recursion (λ octet. (octet == separator) ≡ false) octets lacks)

@@ -1,14 +1,16 @@
 -- Words that are made of parts.
-use Rattle.std.proofs.Common.{◌≡◌, ◌≢◌, ℕ, ◌+◌, ◌<◌, ◌^◌, List, [], ◌∷◌, decimal, sym, ap, ◌∙◌, arith}
+use Rattle.std.proofs.Common.{◌≡◌, ◌≢◌, ℕ, ◌+◌, ◌<◌, ◌^◌, List, [], ◌∷◌, decimal, map, sym, ap, ◌∙◌, arith}
 use Rattle.std.specs.Char.{digit_value}
 use Rattle.std.specs.Str.Parse.{AllDigits}
+use Rattle.std.specs.List.{AllByRecursion}
+use Rattle.narc_bits.specs.Octets.{IsOctets}
 use Rattle.narc_packet.specs.Ranges.{IsIp}
 use Rattle.narc_packet.specs.TextWords.{ip_word}
 use Rattle.narc_reading.specs.Parts.{octet_of, parts_of}
 use Rattle.narc_reading.specs.declared.parts.Separator.{Separator}
 use Rattle.narc_reading.specs.declared.parts.Separator.TheVariants.{Space, Comma, Slash, Point, Colon}
 use Rattle.narc_reading.proofs.Decimals.{IsPlain-decimal, digit-from_value}
-use Rattle.narc_reading.proofs.Separated.{Lacks, test-other, parts_of-join}
+use Rattle.narc_reading.proofs.Separated.{Lacks, Lacks-each, test-other, parts_of-join}
 
 -- a separator, or another octet, that no digit is
 lacks-digits : (separator : ℕ) → ((c : ℕ) → c < 10 → 48 + c ≢ separator) → (digits : List ℕ) → AllDigits 10 digits → Lacks separator digits
@@ -25,6 +27,9 @@ digit-apart Colon c h = λ e. omega arith
 
 pub Lacks-decimal : (separator : Separator) (n : ℕ) → n < 10 ^ 19 → Lacks (octet_of separator) (decimal n)
 Lacks-decimal separator n small = lacks-digits (octet_of separator) (digit-apart separator) (decimal n) (IsPlain-decimal n small).each
+
+pub Lacks-decimals : (separator : Separator) (numbers : List ℕ) → IsOctets numbers → AllByRecursion (Lacks (octet_of separator)) (map decimal numbers)
+Lacks-decimals separator numbers is = Lacks-each (octet_of separator) decimal (λ n. n < 256) (λ n h. Lacks-decimal separator n (omega (arith, h))) numbers is
 
 pub lacks-dash-decimal : (n : ℕ) → n < 10 ^ 19 → Lacks 45 (decimal n)
 lacks-dash-decimal n small = lacks-digits 45 (λ c h e. omega arith) (decimal n) (IsPlain-decimal n small).each

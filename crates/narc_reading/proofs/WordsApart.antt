@@ -1,5 +1,5 @@
 -- Each value has a word of its own.
-use Rattle.std.proofs.Common.{◌≡◌, ◌≢◌, ℕ, ◌+◌, ◌*◌, ◌/◌, ◌%◌, ◌<◌, Bool, true, false, List, [], ◌∷◌, codes, decimal, length, map, refl, sym, ap, ◌∙◌, arith}
+use Rattle.std.proofs.Common.{◌≡◌, ◌≢◌, ℕ, ◌+◌, ◌*◌, ◌/◌, ◌%◌, ◌<◌, Bool, true, false, List, [], ◌∷◌, codes, decimal, length, map, refl, sym, ap, ◌∙◌, arith, lit<}
 use Rattle.std.specs.Prelude.{if◌then◌else◌}
 use Rattle.std.specs.List.{AllByRecursion}
 use Rattle.std.proofs.lemmas.Fmt.{decimal_injective}
@@ -18,18 +18,14 @@ use Rattle.narc_reading.proofs.DigitLanes.{octets_of-encode_lower}
 use Rattle.narc_reading.proofs.Separated.{Lacks, parts_of-join, parts_of-none}
 use Rattle.narc_reading.proofs.OptionLoops.{HaveWords, list-parts, lacks-each}
 use Rattle.narc_reading.proofs.OptionParts.{tcp-readable, ip-readable, as_tcp-word}
-use Rattle.narc_reading.proofs.WordParts.{Lacks-decimal}
+use Rattle.narc_reading.proofs.WordParts.{Lacks-decimals}
 
 pub encode_lower-injective : (a b : List ℕ) → IsOctets a → IsOctets b → encode_lower a ≡ encode_lower b → a ≡ b
 encode_lower-injective a b m n e = sym (octets_of-encode_lower a m) ∙ ap (λ w. octets_of (map digit_number w)) e ∙ octets_of-encode_lower b n
 
-lacks-numbers : (a : List ℕ) → IsOctets a → AllByRecursion (Lacks 46) (map decimal a)
-lacks-numbers [] is = tt
-lacks-numbers (o ∷ a) is = (Lacks-decimal Point o (omega (arith, is.0)), lacks-numbers a is.1)
-
 ip-parts : (a : List ℕ) → 0 < length a → IsOctets a → parts_of 46 (ip_word a) ≡ map decimal a
 ip-parts [] some is = absurd (omega (arith, some))
-ip-parts (o ∷ a) some is = parts_of-join 46 (decimal o) (map decimal a) (lacks-numbers (o ∷ a) is)
+ip-parts (o ∷ a) some is = parts_of-join 46 (decimal o) (map decimal a) (Lacks-decimals Point (o ∷ a) is)
 
 decimals-injective : (a b : List ℕ) → IsOctets a → IsOctets b → map decimal a ≡ map decimal b → a ≡ b
 decimals-injective [] [] m n e = refl
@@ -50,36 +46,15 @@ mark-injective letter true false other e = absurd (other e)
 mark-injective letter false true other e = absurd (other (sym e))
 mark-injective letter false false other e = refl
 
--- letters are no points
-letter-68 : ◌≢◌ {A = ℕ} 68 46
-letter-68 e = omega (arith, e)
-
-letter-77 : ◌≢◌ {A = ℕ} 77 46
-letter-77 e = omega (arith, e)
-
-letter-85 : ◌≢◌ {A = ℕ} 85 46
-letter-85 e = omega (arith, e)
-
-letter-65 : ◌≢◌ {A = ℕ} 65 46
-letter-65 e = omega (arith, e)
-
-letter-80 : ◌≢◌ {A = ℕ} 80 46
-letter-80 e = omega (arith, e)
-
-letter-82 : ◌≢◌ {A = ℕ} 82 46
-letter-82 e = omega (arith, e)
-
-letter-83 : ◌≢◌ {A = ℕ} 83 46
-letter-83 e = omega (arith, e)
-
-letter-70 : ◌≢◌ {A = ℕ} 70 46
-letter-70 e = omega (arith, e)
+-- a letter is no point
+letter : (n : ℕ) → 46 < n → n ≢ 46
+letter n above e = omega (arith, above, e)
 
 pub fragment-injective : (df mf other more : Bool) → fragment_marks df mf ≡ fragment_marks other more → (df ≡ other) × (mf ≡ more)
 fragment-injective df mf other more e =
     let first : (if df then 68 else 46) ≡ (if other then 68 else 46) = cc e in
     let second : (if mf then 77 else 46) ≡ (if more then 77 else 46) = cc e in
-    (mark-injective 68 df other letter-68 first, mark-injective 77 mf more letter-77 second)
+    (mark-injective 68 df other (letter 68 (lit< tt)) first, mark-injective 77 mf more (letter 77 (lit< tt)) second)
 
 odd-same : (m n : ℕ) → is_odd m ≡ is_odd n → m % 2 ≡ n % 2
 odd-same m n e = grind (arith, nat_tests)
@@ -102,12 +77,12 @@ flags_word-injective m n small low e =
       arith,
       six-bits m small,
       six-bits n low,
-      flag-same 85 (m / 32) (n / 32) (letter-85) b1,
-      flag-same 65 (m / 16) (n / 16) (letter-65) b2,
-      flag-same 80 (m / 8) (n / 8) (letter-80) b3,
-      flag-same 82 (m / 4) (n / 4) (letter-82) b4,
-      flag-same 83 (m / 2) (n / 2) (letter-83) b5,
-      flag-same 70 (m / 1) (n / 1) (letter-70) b6,
+      flag-same 85 (m / 32) (n / 32) (letter 85 (lit< tt)) b1,
+      flag-same 65 (m / 16) (n / 16) (letter 65 (lit< tt)) b2,
+      flag-same 80 (m / 8) (n / 8) (letter 80 (lit< tt)) b3,
+      flag-same 82 (m / 4) (n / 4) (letter 82 (lit< tt)) b4,
+      flag-same 83 (m / 2) (n / 2) (letter 83 (lit< tt)) b5,
+      flag-same 70 (m / 1) (n / 1) (letter 70 (lit< tt)) b6,
     )
 
 -- lists of options

@@ -7,7 +7,7 @@ use crate::error::BadLine;
 /// The most digits that are read: such a number fits 64 bits.
 const MOST: usize = 19;
 
-/// The number of a digit.
+/// What a digit counts.
 #[inline(always)]
 fn read_digit(octet: u8) -> Result<u8, BadLine>
     ensures { IsRead (λ n. 48 + n) (λ n. n < 10) octet result }
@@ -18,7 +18,7 @@ fn read_digit(octet: u8) -> Result<u8, BadLine>
     }
 }
 
-/// A decimal number below the limit, without leading zeros.
+/// The number below the limit that has these decimal digits, without sign and leading zeros. `BadLine` exactly where there is none.
 pub fn read_decimal(digits: &[u8], limit: u64) -> Result<u64, BadLine>
     requires { limit ≤ 10 ^ 19 }
     ensures { IsRead decimal (λ n. n < limit) digits.now result }

@@ -1,4 +1,5 @@
-//! Octets from hexadecimal digits, 16 octets at a time. What is read is printed again, and compared.
+//! Octets from hexadecimal digits, 16 octets at a time. What is read is printed again, and compared: so what is taken is exactly what
+//! would be printed.
 ghost use Rattle.std.specs.Prelude.{◌≡◌, ◌≢◌, ◌*◌, ◌<◌, ◌++◌, ℕ, List, length, map, MatchBool, OnOk, OnErr};
 ghost use Rattle.hex.specs.Hex.{encode_lower};
 ghost use Rattle.narc_bits.specs.Octets.{IsOctets};

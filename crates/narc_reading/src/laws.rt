@@ -1,7 +1,7 @@
 //! What holds of texts, whoever reads or writes them.
 ghost use Rattle.narc_reading.specs.Laws.{EachTextHasOnePacket};
 
-/// A text is the text of one packet that has a frame, and of no other one.
+/// No two packets that have a frame have the same text.
 pub fn each_text_has_one_packet()
     ensures { EachTextHasOnePacket }
 {}

@@ -1,4 +1,5 @@
-//! Text read back: each reader answers exactly where the octets are such a text.
+//! Text read back: packets, the lines of a capture, and single words. Each reader answers the value whose text the octets are, and
+//! `BadLine` exactly where they are the text of none. Any octets may come.
 #![tactic(auto)]
 
 mod decimal;

@@ -38,7 +38,7 @@ fn next_unit(words: &mut Parts<'_>) -> Result<Unit, BadLine>
 pub struct CaptureLine {
     /// What the sub-seconds count.
     pub unit: Unit,
-    /// The snapshot length.
+    /// The snapshot length, in octets.
     pub snap: u32,
 }
 
@@ -53,7 +53,7 @@ impl CaptureLine {
         Ok(CaptureLine { unit, snap })
     }
 
-    /// The unit and the snapshot length of which this is the line.
+    /// The unit and the snapshot length of which this is the line, without its line feed. `BadLine` exactly where there are none.
     pub fn read(line: &[u8]) -> Result<CaptureLine, BadLine>
         ensures { IsRead (λ head. capture_line (unit_word head.unit) head.snap) (λ head. head.snap < 2 ^ 32) (line.now ++ 10 ∷ []) result }
     {
@@ -65,8 +65,11 @@ impl CaptureLine {
 /// The line of a record with a packet.
 #[derive(Drop)]
 pub struct RecordLine<'a> {
+    /// Seconds since the first of January 1970, UTC.
     pub sec: u32,
+    /// Sub-seconds, in the unit of the capture; any number of 32 bits.
     pub sub: u32,
+    /// A packet that has a frame.
     pub packet: Packet<'a>,
 }
 
@@ -85,7 +88,8 @@ fn read_record<'a>(words: &mut Parts<'_>, store: &'a mut [u8]) -> Result<RecordL
 }
 
 impl<'a> RecordLine<'a> {
-    /// The record of which this is the line. The options and the payload of its packet lie in the store.
+    /// The record of which this is the line, without its line feed. The options and the payload of its packet lie in the store.
+    /// `BadLine` exactly where there is none.
     pub fn read(line: &[u8], store: &'a mut [u8]) -> Result<RecordLine<'a>, BadLine>
         requires { MAX_FRAME ≤ length store.old }
         ensures read { IsReadBy entry_view entry_line IsTextEntry (line.now ++ 10 ∷ []) result }
@@ -99,7 +103,7 @@ impl<'a> RecordLine<'a> {
 /// The last line of a capture of packets alone.
 #[derive(Clone, Copy, Drop)]
 pub struct EndLine {
-    /// How many records there are, each with a packet.
+    /// How many records there are, each with a packet: fewer than 10^19.
     pub packets: u64,
 }
 
@@ -120,7 +124,7 @@ impl EndLine {
         }
     }
 
-    /// The count of which this is the line.
+    /// The count of which this is the line, without its line feed. `BadLine` exactly where there is none.
     pub fn read(line: &[u8]) -> Result<EndLine, BadLine>
         ensures { IsRead (λ last. end_line last.packets last.packets 0 0) (λ last. last.packets < 10 ^ 19) (line.now ++ 10 ∷ []) result }
     {

@@ -204,8 +204,8 @@ pub(crate) fn read_words<'r>(
     }
 }
 
-/// The packet whose text the line is. Its options and its payload lie in the store. `BadLine` exactly where the line is the
-/// text of no packet that has a frame.
+/// The packet whose text the line is. Its options and its payload lie in the store, of at least `MAX_FRAME` octets. `BadLine` exactly
+/// where the line is the text of no packet that has a frame.
 pub fn read_packet<'r>(line: &[u8], store: &'r mut [u8]) -> Result<Packet<'r>, BadLine>
     requires { MAX_FRAME ≤ length store.old }
     ensures read { IsReadBy view text IsWellFormed line.now result }

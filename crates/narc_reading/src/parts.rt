@@ -138,18 +138,21 @@ impl<'a> Parts<'a> {
         read_decimal(self.next()?, limit)
     }
 
+    /// Takes the next part, a number of 8 bits.
     pub(crate) fn octet(&mut self) -> Result<u8, BadLine>
         ensures { IsPartRead decimal (λ n. n < 2 ^ 8) self.old self.new result }
     {
         Ok(self.number(1 << 8)? as u8)
     }
 
+    /// Takes the next part, a number of 16 bits.
     pub(crate) fn short(&mut self) -> Result<u16, BadLine>
         ensures { IsPartRead decimal (λ n. n < 2 ^ 16) self.old self.new result }
     {
         Ok(self.number(1 << 16)? as u16)
     }
 
+    /// Takes the next part, a number of 32 bits.
     pub(crate) fn long(&mut self) -> Result<u32, BadLine>
         ensures { IsPartRead decimal (λ n. n < 2 ^ 32) self.old self.new result }
     {

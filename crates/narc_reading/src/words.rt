@@ -1,4 +1,4 @@
-//! Single words that are read.
+//! Addresses, fragment flags and the flags of TCP, each a word.
 ghost use Rattle.std.specs.Prelude.{◌≡◌, ◌<◌, ◌^◌, Bool, if◌then◌else◌};
 ghost use Rattle.narc_packet.specs.Ranges.{IsMac, IsIp};
 ghost use Rattle.narc_packet.specs.TextWords.{mac_word, ip_word, fragment_marks, flags_word};
@@ -35,7 +35,7 @@ impl Parts<'_> {
     }
 }
 
-/// An Ethernet address: twelve digits.
+/// The hardware address of which this is the word: twelve hexadecimal digits in lower case. `BadLine` exactly where there is none.
 pub fn read_mac(word: &[u8]) -> Result<[u8; 6], BadLine>
     ensures { IsRead mac_word IsMac word.now result }
 {
@@ -48,7 +48,7 @@ pub fn read_mac(word: &[u8]) -> Result<[u8; 6], BadLine>
     Ok(address)
 }
 
-/// An IPv4 address: four decimal numbers joined by points.
+/// The IPv4 address of which this is the word: four decimal numbers below 256, joined by points. `BadLine` exactly where there is none.
 pub fn read_ip(word: &[u8]) -> Result<[u8; 4], BadLine>
     ensures { IsRead ip_word IsIp word.now result }
 {
@@ -84,7 +84,8 @@ fn read_fragment(word: &[u8]) -> Result<(bool, bool), BadLine>
     Ok((read_mark(b'D', *df)?, read_mark(b'M', *mf)?))
 }
 
-/// The flags of TCP, each by its first letter.
+/// The flags of TCP (RFC 793, section 3.1), of six bits with URG the highest, of which this is the word: each by its first letter, or a
+/// point in its place. `BadLine` exactly where there is none.
 pub fn read_flags(word: &[u8]) -> Result<u8, BadLine>
     ensures { IsRead flags_word (λ flags. flags < 64) word.now result }
 {

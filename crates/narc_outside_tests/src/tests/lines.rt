@@ -1,111 +1,90 @@
-//! Texts, line by line.
-ghost use Rattle.std.specs.Prelude.{◌≤◌};
-
-use narc_lines::{Behind, LineReader, NextLine};
-use narc_world::{MemorySource, zeros};
+//! The lines of a capture's text.
+use narc_bits::MAX_FRAME;
+use narc_pcap::Unit;
+use narc_reading::{CaptureLine, EndLine, RecordLine};
 use std::alloc::Global;
+use std::process::Abort;
 use std::test::Fail;
 
-/// The most octets of a line in these tests, its line feed among them.
-const LONGEST: usize = 6;
+/// Lines that no capture's text begins with.
+const NO_CAPTURE: [&[u8]; 9] = [
+    b"",
+    b"capture",
+    b"capture us",
+    b"capture ms 65535",
+    b"capture us 4294967296",
+    b"capture us 065535",
+    b"capture us 65535 ",
+    b"capture us 65535 1",
+    b"Capture us 65535",
+];
 
-/// What a reader told of a text: its lines, each behind a bar, what came behind them, where, and how many octets were taken.
-#[derive(Drop)]
-struct Told {
-    lines: Vec<u8>,
-    last: Option<NextLine>,
-    place: u64,
-    taken: u64,
+/// Lines of which none is a record's with a packet.
+const NO_RECORD: [&[u8]; 9] = [
+    b"",
+    b"rec 1 2",
+    b"rec 1 2 ok",
+    b"rec 1 2 eth 000000000000 000000000000 other 0 -",
+    b"rec 1 2 refused ipv4.checksum 24",
+    b"rec 1 2 snapped 20 60",
+    b"rec 4294967296 2 ok eth 000000000000 000000000000 other 0 -",
+    b"rec 1 02 ok eth 000000000000 000000000000 other 0 -",
+    b"rec 1 2 ok eth 000000000000 000000000000 other 0 -\n",
+];
+
+/// Lines that no text of packets alone ends with.
+const NO_END: [&[u8]; 9] = [
+    b"",
+    b"end 3 3 0",
+    b"end 3 2 0 0",
+    b"end 2 3 0 0",
+    b"end 4 3 1 0",
+    b"end 4 3 0 1",
+    b"end 3 3 0 00",
+    b"end 03 03 0 0",
+    b"end 10000000000000000000 10000000000000000000 0 0",
+];
+
+#[test]
+fn a_capture_has_its_unit_and_length(rt: HostRuntime) -> Result<(), Fail> {
+    let line = CaptureLine::read(b"capture ns 4294967295")?;
+    assert!(rt; line.unit == Unit::Nano);
+    assert_eq!(rt; line.snap, 4_294_967_295);
+    assert!(rt; CaptureLine::read(b"capture us 0")?.unit == Unit::Micro);
+    for line in NO_CAPTURE {
+        assert!(rt; CaptureLine::read(line).is_err());
+    }
+    Ok(())
 }
 
-/// Reads a text by way of a buffer of so many octets, up to ten lines of it.
-fn read(
-    alloc: Global,
-    size: usize,
-    octets: &[u8],
-    pieces: &[usize],
-    failing: &[u64],
-) -> Result<Told, Fail>
-    requires { LONGEST ≤ size }
-{
-    let mut source = MemorySource::new(alloc, octets, pieces, failing)?;
-    let mut reader = LineReader::new(zeros(alloc, size)?, LONGEST);
-    let mut lines = Vec::new(alloc);
-    let mut last = None;
-    for _ in 0..10 {
-        match reader.next(&mut source) {
-            NextLine::Line => {
-                lines.push(b'|')?;
-                lines.extend_from_slice(reader.line())?;
-            }
-            end => {
-                last = Some(end);
-                break;
-            }
-        }
-    }
-    Ok(Told {
-        lines,
-        last,
-        place: reader.place(),
-        taken: reader.taken(),
-    })
+fn is_record(alloc: Global, line: &[u8]) -> Result<bool, Fail> {
+    let mut store = vec![in alloc; 0u8; MAX_FRAME]?;
+    Ok(RecordLine::read(line, store.as_mut_slice()).is_ok())
 }
 
 #[test]
-fn lines_come_whole_whatever_the_pieces_and_the_buffer(rt: HostRuntime) -> Result<(), Fail> {
-    for size in LONGEST..15 {
-        for piece in 1..15 {
-            let told = read(rt.alloc(), size, b"one\n\nthree\nfou", &[piece; 14], &[])?;
-            assert!(rt; told.lines.as_slice() == b"|one||three".as_slice());
-            assert!(rt; told.last == Some(NextLine::Torn));
-            assert_eq!(rt; (told.place, told.taken), (11, 14));
-        }
+fn a_record_has_its_time_and_packet(rt: HostRuntime) -> Result<(), Fail> {
+    let mut store = vec![in rt.alloc(); 0u8; MAX_FRAME]?;
+    let text = b"rec 4294967295 250000 ok eth 000000000000 0000000000ff other 34997 00";
+    let line = RecordLine::read(text, store.as_mut_slice())?;
+    assert_eq!(rt; line.sec, 4_294_967_295);
+    assert_eq!(rt; line.sub, 250_000);
+    assert!(rt; line.packet.src == [0, 0, 0, 0, 0, 255]);
+    for line in NO_RECORD {
+        assert!(rt; !is_record(rt.alloc(), line)?);
     }
     Ok(())
 }
 
 #[test]
-fn as_many_octets_as_a_line_may_have_and_no_line_feed_are_endless(
-    rt: HostRuntime,
-) -> Result<(), Fail> {
-    for size in LONGEST..10 {
-        let told = read(rt.alloc(), size, b"a\nsixsix\n", &[3, 1, 1, 1, 1, 1], &[])?;
-        assert!(rt; told.lines.as_slice() == b"|a".as_slice());
-        assert!(rt; told.last == Some(NextLine::Endless));
-        assert_eq!(rt; told.place, 2);
+fn a_last_line_has_its_count(rt: HostRuntime) -> Result<(), Fail> {
+    assert_eq!(rt; EndLine::read(b"end 0 0 0 0")?.packets, 0);
+    assert_eq!(rt;
+        EndLine::read(b"end 9999999999999999999 9999999999999999999 0 0")?.packets,
+        9_999_999_999_999_999_999
+    );
+    for line in NO_END {
+        assert!(rt; EndLine::read(line).is_err());
     }
-    Ok(())
-}
-
-#[test]
-fn a_pull_that_fails_loses_no_line(rt: HostRuntime) -> Result<(), Fail> {
-    for pull in 1..7 {
-        let told = read(rt.alloc(), LONGEST, b"a\n\nb\n", &[1; 5], &[pull])?;
-        let whole: &[u8] = match pull {
-            1 | 2 => b"",
-            3 => b"|a",
-            4 | 5 => b"|a|",
-            _ => b"|a||b",
-        };
-        assert!(rt; told.lines.as_slice() == whole);
-        assert!(rt; told.last == Some(NextLine::ReadFault));
-        assert_eq!(rt; told.taken, pull - 1);
-    }
-    Ok(())
-}
-
-#[test]
-fn behind_the_last_line_is_the_end_or_an_octet(rt: HostRuntime) -> Result<(), Fail> {
-    let mut source = MemorySource::new(rt.alloc(), b"a\nb\n", &[1, 1], &[5])?;
-    let mut lines = LineReader::new(zeros(rt.alloc(), LONGEST)?, LONGEST);
-    assert_eq!(rt; lines.next(&mut source), NextLine::Line);
-    assert!(rt; !lines.is_ready());
-    assert_eq!(rt; lines.behind(&mut source), Behind::More);
-    assert!(rt; lines.is_ready());
-    assert_eq!(rt; lines.next(&mut source), NextLine::Line);
-    assert_eq!(rt; lines.behind(&mut source), Behind::End);
-    assert_eq!(rt; lines.behind(&mut source), Behind::ReadFault);
-    assert_eq!(rt; lines.next(&mut source), NextLine::End);
     Ok(())
 }

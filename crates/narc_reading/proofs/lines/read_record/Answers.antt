@@ -1,4 +1,4 @@
-use Rattle.std.proofs.Common.{◌∷◌, codes, decimal}
+use Rattle.std.proofs.Common.{rules, ◌∷◌, codes, decimal}
 use Rattle.narc_text.specs.CaptureText.{IsTextEntry, entry_words}
 use Rattle.narc_text.specs.PacketText.{packet_words}
 use Rattle.narc_reading.specs.Reading.{entry_view}
@@ -14,3 +14,6 @@ pub returns-in_err-sub-clause-read : goal.returns-in_err-sub-clause-read
 returns-in_err-sub-clause-read c =
     IsReadBy-refused entry_view entry_words IsTextEntry c.args.words.now c.from_residual-in_err-sub.result c.from_residual-in_err-sub.ensures.0
     (λ r is e. c.in_err-sub.ensures r.sub (codes "ok" ∷ packet_words r.packet) is.sub (behind c.in_ok-sec.ensures.1 (behind c.in_ok-expect.ensures.ok e)))
+
+pub returns-clause-read : goal.returns-clause-read
+returns-clause-read c = search rules

@@ -1,4 +1,4 @@
-use Rattle.std.proofs.Common.{◌≡◌, ◌++◌, map, sym, ap, ◌∙◌, subst}
+use Rattle.std.proofs.Common.{rules, ◌≡◌, ◌++◌, map, sym, ap, ◌∙◌, subst}
 use Rattle.narc_packet.specs.Options.{tcp_option, IsTcpOption, tcp_options_in}
 use Rattle.narc_packet.specs.TextWords.{tcp_option_word, tcp_options_word}
 use Rattle.narc_reading.specs.Reading.{FitTcpArea}
@@ -23,3 +23,6 @@ returns-clause-read c =
       subst FitTcpArea (sym same) c.loop-next.invariant.fits,
       options-found tcp_option_word c.args.word.now options c.loop-next.words c.loop-next.invariant.parts c.in_default.ensures.err ∙ ap tcp_options_word (sym same),
     )
+
+pub loop-next-init : goal.loop-next-init
+loop-next-init c = search rules

@@ -1,4 +1,5 @@
-use Rattle.narc_reading.proofs.PacketWords.{line-read, line-only}
+use Rattle.narc_reading.proofs.PacketWords.{line-read}
+use Rattle.narc_reading.proofs.PacketsApart.{line-only}
 use Rattle.narc_reading.proofs.packet.read_packet.Goals as goal
 
 pub returns-clause-read : goal.returns-clause-read

@@ -1,4 +1,4 @@
-use Rattle.std.proofs.Common.{[], ◌∷◌, codes, decimal, length}
+use Rattle.std.proofs.Common.{rules, [], ◌∷◌, codes, decimal, length}
 use Rattle.narc_packet.specs.PacketView.{TcpBody, tcp_view}
 use Rattle.narc_packet.specs.TextWords.{hex_word, flags_word, tcp_options_word}
 use Rattle.narc_text.specs.PacketText.{ip_body_words}
@@ -35,3 +35,6 @@ pub returns-in_err-urgent-clause-read : goal.returns-in_err-urgent-clause-read
 returns-in_err-urgent-clause-read c =
     IsReadBy-refused tcp_view (λ t. ip_body_words (TcpBody t)) (IsReadableTcp (length c.args.room.now)) (codes "tcp" ∷ c.args.words.now) c.from_residual-in_err-urgent.result c.from_residual-in_err-urgent.ensures.0
     (λ t is e. c.in_err-urgent.ensures t.urgent (tcp_options_word t.options ∷ hex_word t.payload ∷ []) is.in_range.urgent (behind c.in_ok-window.ensures.1 (behind c.in_ok-flags.ensures.1 (behind c.in_ok-reserved.ensures.1 (behind c.in_ok-ack.ensures.1 (behind c.in_ok-seq.ensures.1 (behind c.in_ok-dport.ensures.1 (behind c.in_ok-sport.ensures.1 (others e)))))))))
+
+pub returns-clause-read : goal.returns-clause-read
+returns-clause-read c = search rules

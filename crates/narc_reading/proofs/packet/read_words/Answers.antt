@@ -6,7 +6,8 @@ use Rattle.narc_reading.specs.Readable.{IsReadable}
 use Rattle.narc_reading.proofs.Refusals.{IsReadBy-refused, behind, front}
 use Rattle.narc_packet.specs.WellFormed.{IsWellFormed}
 use Rattle.narc_reading.proofs.HexTexts.{refused}
-use Rattle.narc_reading.proofs.PacketWords.{packet_words-injective, readable-packet}
+use Rattle.narc_reading.proofs.PacketWords.{readable-packet}
+use Rattle.narc_reading.proofs.PacketsApart.{packet_words-injective}
 use Rattle.narc_reading.proofs.packet.read_words.Goals as goal
 
 pub returns-in_err-dst-clause-read : goal.returns-in_err-dst-clause-read

@@ -1,4 +1,4 @@
-use Rattle.std.proofs.Common.{◌≡◌, ◌++◌, [], length, drop, refl, sym, ap, ◌∙◌, subst, arith, append-nil, append_assoc, take-append-drop}
+use Rattle.std.proofs.Common.{rules, ◌≡◌, ◌++◌, [], length, drop, refl, sym, ap, ◌∙◌, subst, arith, append-nil, append_assoc, take-append-drop}
 use Rattle.hex.specs.Hex.{encode_lower}
 use Rattle.narc_packet.specs.TextWords.{hex_word}
 use Rattle.narc_text.specs.Printing.{Passes, Stops}
@@ -46,3 +46,6 @@ returns-in_err-make_room-clause-printed g c =
     (Stops-more [] (encode_lower rest) c.loop-rest.page middle now c.in_err-make_room.ensures.printed) in
     IsPrinted-failed (hex_word c.args.octets.now) c.args.page.now c.make_room.new.self before now c.from_residual.result c.from_residual.ensures.0
     (subst (λ l. Stops (c.args.page.now ++ l) before now) (sym (hex_word-split c.args.octets.now so_far.done.front rest (is_some (length c.args.octets.now) c.is_empty.result c.is_empty.ensures c.if-is_empty.false) so_far.done.joined)) stopped)
+
+pub returns-then-is_empty-clause-printed : goal.returns-then-is_empty-clause-printed
+returns-then-is_empty-clause-printed g c = search rules
