@@ -1,5 +1,5 @@
 -- How the making of a capture ends, by the lines that were read and what was made of them.
-use Rattle.std.proofs.Common.{◌≡◌, ℕ, ◌+◌, ◌≤◌, ◌⊎◌, refl, ap, List, [], ◌∷◌, ◌++◌, length, take, Option, Result, Ok, Err, sym, ◌∙◌, subst, arith}
+use Rattle.std.proofs.Common.{◌≡◌, ℕ, ◌+◌, ◌≤◌, ◌⊎◌, refl, ap, List, [], ◌∷◌, ◌++◌, length, take, Option, Result, Ok, Err, sym, ◌∙◌, subst}
 use Rattle.std.specs.Prelude.{IsErr, IsTrue, IsFalse}
 use Rattle.std.proofs.Math.Seq.{take-append-add}
 use Rattle.narc_world.specs.declared.error.Failed.{Failed}
@@ -21,7 +21,7 @@ cut_whole : (all page : List ℕ) (a b c : Option (List ℕ)) → Passes all pag
 cut_whole all page a b c p q = (
   length p.pushed + q.0,
   subst (λ l. Appends l a c) (sym (ap (take (length p.pushed + q.0)) p.split ∙ take-append-add p.pushed page q.0))
-  (Appends-append p.pushed (take q.0 page) a b c p.appended q.1),
+      (Appends-append p.pushed (take q.0 page) a b c p.appended q.1),
 )
 
 -- octets that begin with these lines, and a rest that begins with none that may follow

@@ -1,13 +1,12 @@
 -- The first lines of a capture's text: which they are is found line by line.
-use Rattle.std.proofs.Common.{◌≡◌, ◌≢◌, ℕ, zero, suc, ◌+◌, ◌<◌, ◌≤◌, ◌^◌, ◌⊎◌, inl, inr, List, [], ◌∷◌, ◌++◌, length, map, take, drop, get_or, refl, sym, ap, ◌∙◌, subst, arith, append_assoc, append-nil, length-append}
+use Rattle.std.proofs.Common.{◌≡◌, ℕ, suc, ◌<◌, ◌≤◌, ◌^◌, ◌⊎◌, inl, inr, List, [], ◌∷◌, ◌++◌, length, map, drop, get_or, refl, sym, ap, ◌∙◌, arith, append_assoc, append-nil, length-append}
 use Rattle.std.specs.Prelude.{true, false, nat_eq, flat_map}
 use Rattle.std.specs.List.{AllByRecursion}
-use Rattle.std.proofs.lemmas.List.{flat_map_more}
 use Rattle.narc_pcap.specs.declared.header.Unit.{Unit as TimeUnit}
-use Rattle.narc_lines.specs.Lines.{HasNoFeed, IsLine, IsOpen}
+use Rattle.narc_lines.specs.Lines.{HasNoFeed, IsLine}
 use Rattle.narc_text.specs.CaptureText.{TextEntry, IsTextEntry, unit_word, capture_line, entry_line, end_line}
-use Rattle.narc_build.specs.CaptureFront.{TextCapture, IsTextCapture, TextFront, NoLine, Begun, Whole, IsTextFront, begun_text, capture_text, front_text, IsFrontOf}
-use Rattle.narc_build.specs.BuiltLine.{IsEntryLine, empty_text}
+use Rattle.narc_build.specs.CaptureFront.{TextCapture, TextFront, NoLine, Begun, Whole, IsTextFront, front_text, IsFrontOf}
+use Rattle.narc_build.specs.BuiltLine.{IsEntryLine}
 
 -- one item more
 pub All-push : {A : Type 0} (P : A → Type 0) (l : List A) (a : A) → AllByRecursion P l → P a → AllByRecursion P (l ++ a ∷ [])

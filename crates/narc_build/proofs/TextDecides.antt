@@ -1,17 +1,13 @@
 -- What decides a text: behind its first lines stands no front of a line that may follow, whatever comes.
-use Rattle.std.proofs.Common.{◌≡◌, ◌≢◌, ℕ, zero, suc, ◌+◌, ◌-◌, ◌<◌, ◌≤◌, ◌⊎◌, inl, inr, Bool, true, false, List, [], ◌∷◌, ◌++◌, length, take, drop, refl, sym, ap, ◌∙◌, subst, arith, append_assoc, append-nil, length-append, take-append-drop}
-use Rattle.std.specs.Prelude.{IsTrue, IsFalse, ◌&&◌, ◌||◌, nat_eq, nat_lt, flat_map}
-use Rattle.std.specs.List.{AllByRecursion, list_any}
-use Rattle.std.proofs.lemmas.Bool.{eqb-true, eq-eqb, le-ltb, lt-ltb, ltb-true, ltb-false}
-use Rattle.std.proofs.lemmas.List.{take_at, drop_at, flat_map_more, take-append-le, length-take-le}
-use Rattle.narc_pcap.specs.declared.header.Unit.{Unit as TimeUnit}
+use Rattle.std.proofs.Common.{◌≡◌, ℕ, ◌-◌, ◌<◌, ◌≤◌, Bool, true, false, List, [], ◌∷◌, ◌++◌, length, refl, ap, ◌∙◌, arith, append_assoc, length-append}
+use Rattle.std.specs.Prelude.{◌&&◌, ◌||◌, nat_eq, nat_lt}
+use Rattle.std.specs.List.{list_any}
+use Rattle.std.proofs.lemmas.Bool.{eqb-true, le-ltb, lt-ltb}
+use Rattle.std.proofs.lemmas.List.{drop_at}
 use Rattle.narc_lines.specs.Lines.{HasNoFeed, IsLine}
-use Rattle.narc_lines.proofs.Feeds.{HasNoFeed-take}
 use Rattle.narc_build.specs.declared.limits.TheConstants.{LONGEST_LINE}
-use Rattle.narc_text.specs.CaptureText.{TextEntry, IsTextEntry, unit_word, capture_line, entry_line, end_line}
-use Rattle.narc_build.specs.CaptureFront.{TextCapture, IsTextCapture, TextFront, NoLine, Begun, Whole, IsTextFront, begun_text, capture_text, front_text, IsFrontOf, rest_of, is_whole, is_all, is_broken}
-use Rattle.narc_build.specs.BuiltLine.{IsEntryLine, empty_text}
-use Rattle.narc_build.proofs.CaptureFronts.{LineFacts, Follows, NoneFollows, front_of_lines}
+use Rattle.narc_build.specs.CaptureFront.{TextCapture, TextFront, Whole, capture_text, front_text, rest_of, is_whole, is_broken}
+use Rattle.narc_build.proofs.CaptureFronts.{LineFacts, Follows, NoneFollows}
 
 -- ---- line feeds
 

@@ -1,6 +1,6 @@
 -- How the job `build` ends where no line follows: before the first, at a line without an end, and behind the last.
 use Rattle.std.proofs.Common.{◌≡◌, ℕ, ◌+◌, ◌-◌, ◌<◌, ◌≤◌, ◌⊎◌, inl, inr, true, false, List, [], ◌∷◌, ◌++◌, length, take, Option, Result, Ok, Err, refl, sym, ap, ◌∙◌, subst, arith, append_assoc, append-nil, length-append}
-use Rattle.std.specs.Prelude.{OnOk, is_err, nat_eq, if◌then◌else◌, flat_map}
+use Rattle.std.specs.Prelude.{OnOk, is_err, nat_eq, if◌then◌else◌}
 use Rattle.std.proofs.lemmas.Bool.{eq-eqb}
 use Rattle.std.proofs.lemmas.Bool.Decides.{nat_tests}
 use Rattle.narc_bits.proofs.Lists.{take-append-add}
@@ -10,22 +10,20 @@ use Rattle.narc_world.specs.Intake.{IsFresh, Holds, Exceeds, taken}
 use Rattle.narc_text.specs.Printing.{Passes}
 use Rattle.narc_world.proofs.Fronts.{TakesFront-append}
 use Rattle.narc_text.proofs.Printings.{Appends-nil}
-use Rattle.narc_pcap.specs.declared.header.Unit.{Unit as TimeUnit}
 use Rattle.narc_world.specs.declared.input_buffer.TheConstants.{INPUT_LIMIT}
 use Rattle.narc_pcap.specs.Written.{Gathered}
-use Rattle.narc_lines.specs.Lines.{HasNoFeed, IsLine, IsOpen, IsEndless}
+use Rattle.narc_lines.specs.Lines.{HasNoFeed, IsLine, IsEndless}
 use Rattle.narc_lines.specs.Reading.{Reading}
 use Rattle.narc_lines.specs.Reading as reading
 use Rattle.narc_build.specs.declared.limits.TheConstants.{LONGEST_LINE}
-use Rattle.narc_text.specs.CaptureText.{end_line, unit_word, capture_line}
-use Rattle.narc_build.specs.CaptureFront.{TextCapture, IsTextCapture, TextFront, NoLine, Begun, Whole, IsTextFront, begun_text, capture_text, front_text, is_all, is_broken}
+use Rattle.narc_text.specs.CaptureText.{end_line}
+use Rattle.narc_build.specs.CaptureFront.{TextCapture, TextFront, NoLine, Begun, Whole, begun_text, capture_text, is_broken}
 use Rattle.narc_build.specs.declared.ending.Built.{Built}
 use Rattle.narc_build.specs.declared.ending.Built.TheVariants as answer
 use Rattle.narc_reading.specs.declared.error.BadLine.{BadLine}
 use Rattle.narc_lines.specs.declared.reader.NextLine.{NextLine}
 use Rattle.narc_lines.specs.declared.reader.NextLine.TheVariants as next
 use Rattle.narc_build.specs.BuiltLine.{IsHeaderBuilt, IsNoHeaderLine}
-use Rattle.narc_build.specs.BuiltCapture.{built_capture}
 use Rattle.narc_build.specs.Building.{text_ending}
 use Rattle.narc_build.specs.Building.{IsShown, BuildRun}
 use Rattle.narc_build.specs.TextEnd.{IsTextEnded, EndsBehind}

@@ -1,19 +1,18 @@
 -- What is known of the lengths and the octets of the lines of a text.
-use Rattle.std.proofs.Common.{◌≡◌, ℕ, ◌+◌, ◌-◌, ◌<◌, ◌≤◌, ◌^◌, inl, inr, List, [], ◌∷◌, ◌++◌, codes, decimal, length, sym, ap, subst, arith, length-append}
+use Rattle.std.proofs.Common.{◌≡◌, ℕ, ◌+◌, ◌<◌, ◌≤◌, ◌^◌, inl, inr, List, [], ◌∷◌, ◌++◌, codes, decimal, length, ap, arith, length-append}
 use Rattle.std.specs.Prelude.{flat_map}
 use Rattle.std.proofs.lemmas.Fmt.{length-decimal-le}
 use Rattle.narc_world.specs.declared.input_buffer.TheConstants.{INPUT_LIMIT}
 use Rattle.narc_packet.specs.Canonical.{canonical_eth_body, canonical_frame}
 use Rattle.narc_packet.specs.Frame.{ether_type_of}
 use Rattle.narc_packet.specs.Ipv4.{canonical_ipv4}
-use Rattle.narc_packet.specs.PacketView.{PacketView, EthBodyView, ArpBody, Ipv4Body, OtherBody}
-use Rattle.narc_packet.specs.WellFormed.{IsWellFormed, IsWellFormedEthBody}
+use Rattle.narc_packet.specs.PacketView.{EthBodyView, ArpBody, Ipv4Body, OtherBody}
+use Rattle.narc_packet.specs.WellFormed.{IsWellFormedEthBody}
 use Rattle.narc_pcap.specs.declared.header.Unit.{Unit as TimeUnit}
 use Rattle.narc_pcap.specs.declared.header.Unit.TheVariants.{Micro, Nano}
 use Rattle.narc_stack.proofs.Canonical.{canonical_size}
 use Rattle.narc_stack.proofs.WellFormed.{arp_size, canonical_small, front_length, padded_length}
-use Rattle.narc_text.specs.CaptureText.{TextEntry, IsTextEntry, unit_word, capture_line, entry_front, entry_line, end_line}
-use Rattle.narc_text.specs.Lines.{ok_line}
+use Rattle.narc_text.specs.CaptureText.{TextEntry, IsTextEntry, unit_word, capture_line, entry_line, end_line}
 use Rattle.narc_text.specs.PacketText.{spaced, text}
 use Rattle.narc_text.proofs.TextSizes.{content_size, text-sized}
 use Rattle.narc_text.proofs.WordSizes.{digits-some, digits-ten}

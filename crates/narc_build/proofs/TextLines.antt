@@ -1,5 +1,5 @@
 -- No text has a line feed in its lines.
-use Rattle.std.proofs.Common.{rules, ◌≡◌, ◌≢◌, ℕ, zero, suc, ◌+◌, ◌*◌, ◌/◌, ◌%◌, ◌<◌, ◌≤◌, ◌==◌, Bool, true, false, List, [], ◌∷◌, ◌++◌, codes, decimal, length, map, get_or, refl, sym, ap, ◌∙◌, subst, arith, append_assoc}
+use Rattle.std.proofs.Common.{rules, ◌≡◌, ◌≢◌, ℕ, zero, suc, ◌+◌, ◌/◌, ◌%◌, ◌<◌, ◌==◌, Bool, true, false, List, [], ◌∷◌, ◌++◌, codes, decimal, map, get_or, refl, sym, ap, ◌∙◌, arith, append_assoc}
 use Rattle.std.specs.Prelude.{if◌then◌else◌}
 use Rattle.std.specs.List.{AllByRecursion, join_with_byte}
 use Rattle.std.specs.Fmt.{digits, digits_onto, digit_glyph}
@@ -9,13 +9,13 @@ use Rattle.hex.specs.Hex.{encode_lower, encode_with, lower_digits}
 use Rattle.narc_packet.specs.declared.blocks.SackBlock.{SackBlock}
 use Rattle.narc_packet.specs.Options.{IpOptionView, IpNop, IpOther, TcpOptionView, TcpNop, TcpMss, TcpScale, TcpSackOk, TcpSack, TcpTimes, TcpOther}
 use Rattle.narc_packet.specs.PacketView.{PacketView, EthBodyView, ArpBody, Ipv4Body, OtherBody, IpBodyView, UdpBody, TcpBody, RawBody}
-use Rattle.narc_packet.specs.TextWords.{block_word, blocks_word, hex_word, mac_word, ip_word, marks, fragment_marks, flags_word, tcp_option_word, ip_option_word, list_word, ip_options_word, tcp_options_word}
+use Rattle.narc_packet.specs.TextWords.{block_word, blocks_word, hex_word, mac_word, ip_word, marks, flags_word, tcp_option_word, ip_option_word, list_word}
 use Rattle.narc_pcap.specs.declared.header.Unit.{Unit as TimeUnit}
 use Rattle.narc_pcap.specs.declared.header.Unit.TheVariants.{Micro, Nano}
 use Rattle.narc_lines.specs.Lines.{HasNoFeed, IsLine}
 use Rattle.narc_lines.proofs.Feeds.{HasNoFeed-append}
 use Rattle.narc_text.specs.PacketText.{text, spaced, eth_body_words, ipv4_words, ip_body_words}
-use Rattle.narc_text.specs.CaptureText.{TextEntry, IsTextEntry, unit_word, capture_line, entry_front, entry_line, end_line}
+use Rattle.narc_text.specs.CaptureText.{TextEntry, unit_word, entry_front, entry_line}
 use Rattle.narc_build.proofs.CaptureFronts.{LineFacts}
 
 glyph : (n : ℕ) → n < 10 → digit_glyph false n ≢ 10

@@ -1,28 +1,25 @@
 -- How the job `build` ends behind the lines that were read.
-use Rattle.std.proofs.Common.{◌≡◌, ℕ, ◌+◌, ◌<◌, ◌≤◌, ◌⊎◌, inl, inr, true, false, List, [], ◌∷◌, ◌++◌, length, Option, Result, Ok, Err, refl, sym, ap, ◌∙◌, subst, arith, append_assoc, append-nil, length-append}
-use Rattle.std.specs.Prelude.{IsErr, IsTrue}
+use Rattle.std.proofs.Common.{◌≡◌, ℕ, ◌<◌, ◌≤◌, inl, inr, List, [], ◌∷◌, ◌++◌, length, Option, Result, refl, sym, ap, ◌∙◌, subst, arith, append_assoc, length-append}
+use Rattle.std.specs.Prelude.{IsErr}
 use Rattle.narc_world.specs.declared.error.Failed.{Failed}
 use Rattle.narc_world.specs.Outside.{TakesFront, IsEmptyWhereTold}
 use Rattle.narc_world.specs.Intake.{Holds, Exceeds, taken}
-use Rattle.narc_text.specs.Printing.{Passes}
 use Rattle.narc_world.proofs.Fronts.{TakesFront-append}
 use Rattle.narc_world.specs.declared.input_buffer.TheConstants.{INPUT_LIMIT}
 use Rattle.narc_pcap.specs.Written.{Gathered}
-use Rattle.narc_lines.specs.Lines.{HasNoFeed, IsLine, IsOpen, IsEndless}
+use Rattle.narc_lines.specs.Lines.{HasNoFeed, IsLine, IsOpen}
 use Rattle.narc_lines.specs.Reading.{Reading}
 use Rattle.narc_lines.specs.Reading as reading
 use Rattle.narc_build.specs.declared.limits.TheConstants.{LONGEST_LINE}
 use Rattle.narc_text.specs.CaptureText.{end_line}
-use Rattle.narc_build.specs.CaptureFront.{TextCapture, Begun, Whole, begun_text, capture_text, is_broken}
+use Rattle.narc_build.specs.CaptureFront.{TextCapture, Begun, begun_text}
 use Rattle.narc_build.specs.declared.ending.Built.{Built}
 use Rattle.narc_build.specs.declared.ending.Built.TheVariants as answer
 use Rattle.narc_build.specs.BuiltLine.{IsEntryLine}
-use Rattle.narc_build.specs.BuiltCapture.{built_capture}
-
 use Rattle.narc_build.specs.Building.{WroteFront}
 use Rattle.narc_build.specs.Building.{IsShown, BuildRun}
 use Rattle.narc_build.proofs.CaptureFronts.{LineFacts, Follows, NoneFollows, one_line}
-use Rattle.narc_build.proofs.TextDecides.{open_follows, open_decides_not, line_decides, long_decides}
+use Rattle.narc_build.proofs.TextDecides.{open_follows, open_decides_not, line_decides}
 use Rattle.narc_build.proofs.TextSoFar.{BuildsSoFar}
 use Rattle.narc_build.proofs.TextFacts.{TextFacts}
 use Rattle.narc_build.proofs.Builds.{judged_by, broken_by, stopped_by, overran_by}

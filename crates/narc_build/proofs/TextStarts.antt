@@ -1,7 +1,6 @@
 -- The first line of a text, and one line more.
 use Rattle.std.proofs.Common.{◌≡◌, ℕ, ◌+◌, ◌-◌, ◌<◌, ◌≤◌, ◌⊎◌, inl, inr, true, false, List, [], ◌∷◌, ◌++◌, length, take, Option, Result, Ok, Err, refl, sym, ap, ◌∙◌, subst, arith, append_assoc, append-nil, length-append}
-use Rattle.std.specs.Prelude.{is_err, flat_map}
-use Rattle.std.specs.List.{AllByRecursion}
+use Rattle.std.specs.Prelude.{is_err}
 use Rattle.std.proofs.lemmas.List.{take_at, flat_map_more}
 use Rattle.narc_build.specs.declared.limits.TheConstants.{LINE_BUFFER, OUTPUT_BUFFER}
 use Rattle.narc_world.specs.Outside.{TakesFront}
@@ -11,8 +10,7 @@ use Rattle.narc_world.proofs.Fronts.{TakesFront-append}
 use Rattle.narc_text.proofs.Printings.{Appends-nil, Passes-then}
 use Rattle.narc_world.specs.declared.input_buffer.TheConstants.{INPUT_LIMIT}
 use Rattle.narc_pcap.specs.declared.header.Unit.{Unit as TimeUnit}
-use Rattle.narc_pcap.specs.declared.header.Header.{Header}
-use Rattle.narc_pcap.specs.Written.{Gathered, header_octets, magic_of, whole_record}
+use Rattle.narc_pcap.specs.Written.{Gathered, header_octets}
 use Rattle.narc_pcap.proofs.WrittenSizes.{header-size, whole_record-size}
 use Rattle.narc_lines.specs.Lines.{IsLine}
 use Rattle.narc_lines.specs.Reading.{Reading}
@@ -21,12 +19,11 @@ use Rattle.narc_packet.specs.Canonical.{canonical_frame}
 use Rattle.narc_reading.specs.declared.error.BadLine.{BadLine}
 use Rattle.narc_build.specs.declared.limits.TheConstants.{LONGEST_LINE}
 use Rattle.narc_text.specs.CaptureText.{TextEntry, IsTextEntry, unit_word, capture_line, entry_line}
-use Rattle.narc_build.specs.CaptureFront.{TextCapture, IsTextCapture, begun_text}
+use Rattle.narc_build.specs.CaptureFront.{TextCapture, begun_text}
 use Rattle.narc_build.specs.BuiltLine.{IsHeaderBuilt, empty_text}
 use Rattle.narc_build.specs.BuiltCapture.{built_capture, built_header, built_record}
 use Rattle.narc_build.proofs.TextSoFar.{BuildsSoFar}
 use Rattle.narc_build.proofs.CaptureFronts.{All-push}
-use Rattle.narc_build.proofs.TextFacts.{TextFacts}
 
 -- a line with its line feed is what was passed
 pub line_back : (passed line : List ℕ) → IsLine passed → line ≡ take (length passed - 1) passed → line ++ 10 ∷ [] ≡ passed

@@ -1,17 +1,15 @@
 -- What octets that decide are found to be, all octets that they begin are found to be.
-use Rattle.std.proofs.Common.{◌≡◌, ℕ, ◌+◌, ◌-◌, ◌<◌, ◌≤◌, ◌⊎◌, inl, inr, Bool, true, false, List, [], ◌∷◌, ◌++◌, length, take, drop, refl, sym, ap, ◌∙◌, subst, arith, append_assoc, append-nil, length-append, take-append-drop}
-use Rattle.std.specs.Prelude.{IsTrue, ◌&&◌, ◌||◌, nat_eq, nat_le, nat_lt, if◌then◌else◌, flat_map}
-use Rattle.std.specs.List.{AllByRecursion, list_any}
+use Rattle.std.proofs.Common.{◌≡◌, ℕ, ◌+◌, ◌-◌, ◌<◌, ◌≤◌, inl, inr, Bool, true, false, List, [], ◌∷◌, ◌++◌, length, take, drop, refl, sym, ap, ◌∙◌, subst, arith, append_assoc, append-nil, length-append, take-append-drop}
+use Rattle.std.specs.Prelude.{◌&&◌, ◌||◌, nat_eq, nat_le, nat_lt, if◌then◌else◌}
 use Rattle.std.proofs.lemmas.Bool.{eqb-true, ltb-true, lt-ltb, leb-true, leb-false}
 use Rattle.std.proofs.lemmas.List.{take_at, take_all, take-append-le, flat_map_more}
 use Rattle.std.proofs.lemmas.List.Folds.{list_any-append}
 use Rattle.narc_lines.specs.Lines.{HasNoFeed, IsLine}
 use Rattle.narc_lines.proofs.Feeds.{HasNoFeed-take}
 use Rattle.narc_build.specs.declared.limits.TheConstants.{LONGEST_LINE}
-use Rattle.narc_text.specs.CaptureText.{TextEntry, IsTextEntry, unit_word, capture_line, entry_line}
-use Rattle.narc_build.specs.CaptureFront.{TextCapture, IsTextCapture, TextFront, NoLine, Begun, Whole, IsTextFront, begun_text, capture_text, front_text, IsFrontOf, is_whole, is_all, is_broken}
+use Rattle.narc_text.specs.CaptureText.{IsTextEntry, unit_word, capture_line, entry_line}
+use Rattle.narc_build.specs.CaptureFront.{TextCapture, IsTextCapture, TextFront, NoLine, Begun, Whole, IsTextFront, begun_text, front_text, IsFrontOf, is_whole, is_all, is_broken}
 use Rattle.narc_world.specs.declared.input_buffer.TheConstants.{INPUT_LIMIT}
-use Rattle.narc_build.specs.declared.ending.Built.{Built}
 use Rattle.narc_build.specs.declared.ending.Built.TheVariants as answer
 use Rattle.narc_build.specs.BuiltLine.{empty_text}
 use Rattle.narc_build.specs.Building.{text_ending}

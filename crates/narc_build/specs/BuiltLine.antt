@@ -1,10 +1,10 @@
 -- What is built of one line of a capture's text.
-use Rattle.std.specs.Prelude.{◌≡◌, ◌≢◌, ℕ, ◌<◌, ◌^◌, List, [], ◌∷◌, ◌++◌, Result, Ok, Err}
+use Rattle.std.specs.Prelude.{◌≡◌, ◌≢◌, ℕ, ◌<◌, ◌^◌, List, [], ◌++◌, Result, Ok, Err}
 use Rattle.narc_pcap.specs.declared.header.Unit.{Unit as TimeUnit}
-use Rattle.narc_pcap.specs.Written.{Gathered, header_octets}
+use Rattle.narc_pcap.specs.Written.{Gathered}
 use Rattle.narc_reading.specs.declared.error.BadLine.{BadLine}
 use Rattle.narc_text.specs.CaptureText.{TextEntry, IsTextEntry, unit_word, capture_line, entry_line, end_line}
-use Rattle.narc_build.specs.CaptureFront.{TextCapture, IsTextCapture}
+use Rattle.narc_build.specs.CaptureFront.{TextCapture}
 use Rattle.narc_build.specs.declared.build_line.BuiltLine.{BuiltLine}
 use Rattle.narc_build.specs.declared.build_line.BuiltLine.TheVariants as built
 use Rattle.narc_build.specs.BuiltCapture.{built_capture, built_record}

@@ -1,5 +1,5 @@
 -- A capture as text, and the first lines of one.
-use Rattle.std.specs.Prelude.{◌≡◌, ℕ, ◌-◌, ◌<◌, ◌≤◌, ◌^◌, Bool, true, false, ◌&&◌, ◌||◌, List, [], ◌∷◌, ◌++◌, length, drop, flat_map, nat_eq, nat_lt}
+use Rattle.std.specs.Prelude.{◌≡◌, ℕ, ◌-◌, ◌<◌, ◌≤◌, ◌^◌, Bool, true, false, ◌&&◌, ◌||◌, List, [], ◌++◌, length, drop, flat_map, nat_eq, nat_lt}
 use Rattle.std.specs.List.{AllByRecursion, list_any}
 use Rattle.narc_pcap.specs.declared.header.Unit.{Unit as TimeUnit}
 use Rattle.narc_build.specs.declared.limits.TheConstants.{LONGEST_LINE}

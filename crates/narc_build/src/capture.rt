@@ -17,11 +17,7 @@ use narc_pcap::Writer;
 use narc_world::{Failed, INPUT_LIMIT, Sink, Source};
 
 /// Pushes all that is gathered, and ends so.
-fn end_build<K: Sink>(
-    ending: Built,
-    writer: &mut Writer,
-    sink: &mut K,
-) -> Result<Built, Failed>
+fn end_build<K: Sink>(ending: Built, writer: &mut Writer, sink: &mut K) -> Result<Built, Failed>
     ensures shown { IsShown result writer.old.octets ending (K.held sink.old) (K.held sink.new) }
     ensures faults { CountsFaults (OnErr result) (K.faults sink.old) (K.faults sink.new) }
 {

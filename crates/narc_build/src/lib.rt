@@ -1,10 +1,10 @@
 //! Captures made of their texts.
 #![tactic(auto)]
 
-mod capture;
 mod build_line;
-mod ending;
+mod capture;
 mod encoded;
+mod ending;
 mod limits;
 
 pub use capture::build;

@@ -1,4 +1,4 @@
-use Rattle.std.proofs.Common.{◌≡◌, ◌+◌, ◌≤◌, ◌⊎◌, [], ◌∷◌, ◌++◌, refl, sym, ap, ◌∙◌, subst, append-nil, arith, length, length-append}
+use Rattle.std.proofs.Common.{◌≡◌, ◌+◌, ◌⊎◌, [], ◌∷◌, ◌++◌, refl, sym, ap, ◌∙◌, subst, arith, length, length-append}
 use Rattle.narc_lines.specs.Reading.{Reading, IsReady}
 use Rattle.narc_pcap.specs.Written.{Gathered}
 use Rattle.narc_build.specs.declared.ending.Built.{Built}
@@ -9,7 +9,7 @@ use Rattle.narc_build.specs.TextEnd.{IsTextEnded}
 use Rattle.narc_build.proofs.TextEnds.{front_stopped}
 use Rattle.narc_build.proofs.TextFacts.{text_facts}
 use Rattle.narc_build.proofs.TextStarts.{starts, goes_on, told, room_left, line_back}
-use Rattle.narc_build.proofs.TextRuns.{torn, fault, passed_limit, bad_line, waited}
+use Rattle.narc_build.proofs.TextRuns.{fault, passed_limit, bad_line, waited}
 use Rattle.narc_build.proofs.TextEnded.{no_head, no_more, headless_fault, headless_line, bad_head, ended}
 use Rattle.narc_build.proofs.capture.build.Goals as goal
 

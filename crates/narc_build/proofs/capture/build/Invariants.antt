@@ -1,6 +1,5 @@
 use Rattle.std.proofs.Common.{◌-◌, ◌≤◌}
 use Rattle.narc_world.specs.declared.input_buffer.TheConstants.{INPUT_LIMIT}
-use Rattle.narc_build.specs.CaptureFront.{TextCapture}
 use Rattle.narc_build.proofs.TextSoFar.{BuildsSoFar}
 use Rattle.narc_build.proofs.capture.build.Given as goal
 
