@@ -4,6 +4,7 @@ mod captures;
 mod line_reader;
 mod lines;
 mod memory;
+mod options;
 mod reading;
 mod std_sink;
 mod std_source;

@@ -1,29 +1,20 @@
 -- Each packet has words and a text of its own.
-use Rattle.std.proofs.Common.{◌≡◌, ◌==◌, ℕ, ◌+◌, ◌-◌, ◌≤◌, ◌<◌, ◌/◌, ◌^◌, Bool, true, false, List, [], ◌∷◌, codes, decimal, length, map, refl, sym, ap, ◌∙◌, subst, arith}
-use Rattle.std.specs.Prelude.{if◌then◌else◌, IfOk, Result, Ok, Err}
-use Rattle.std.specs.List.{AllByRecursion, join_with_byte}
+use Rattle.std.proofs.Common.{◌≡◌, ℕ, ◌-◌, ◌<◌, ◌^◌, List, decimal, length, sym, ap, ◌∙◌, arith}
+use Rattle.std.specs.Prelude.{IfOk, Result, Ok, Err}
 use Rattle.std.proofs.lemmas.Fmt.{decimal_injective}
-use Rattle.narc_bits.specs.Bits.{is_odd}
-use Rattle.narc_bits.specs.Octets.{IsOctets}
 use Rattle.narc_bits.specs.declared.limits.TheConstants.{MAX_FRAME}
-use Rattle.narc_packet.specs.declared.limits.TheConstants.{MAX_LENGTH}
 use Rattle.narc_packet.specs.declared.packet.Packet.{Packet}
-use Rattle.narc_packet.specs.Options.{IpOptionView, TcpOptionView, IsIpOption, IsTcpOption, ip_area}
-use Rattle.narc_packet.specs.PacketView.{PacketView, EthBodyView, ArpBody, Ipv4Body, OtherBody, Ipv4View, IpBodyView, UdpBody, TcpBody, RawBody, view}
-use Rattle.narc_packet.specs.Ranges.{IsIp}
-use Rattle.narc_packet.specs.TextWords.{hex_word, mac_word, ip_word, fragment_marks, flags_word, list_word, tcp_option_word, ip_option_word, tcp_options_word, ip_options_word}
-use Rattle.narc_packet.specs.WellFormed.{smallest_length, IsWellFormed, IsWellFormedIpv4, IsWellFormedIpBody, IsWellFormedEthBody}
+use Rattle.narc_packet.specs.PacketView.{PacketView, EthBodyView, ArpBody, Ipv4Body, OtherBody, IpBodyView, UdpBody, TcpBody, RawBody, view}
+use Rattle.narc_packet.specs.TextWords.{hex_word, mac_word, ip_word, fragment_marks, flags_word, tcp_options_word, ip_options_word}
+use Rattle.narc_packet.specs.WellFormed.{IsWellFormed}
 use Rattle.narc_text.specs.PacketText.{ip_body_words, eth_body_words, packet_words, text}
 use Rattle.narc_reading.specs.Parts.{parts_of}
 use Rattle.narc_reading.specs.Readable.{IsReadableIpBody, IsReadableEthBody, IsReadable}
-use Rattle.narc_reading.specs.Reading.{IsReadBy, FitIpArea, FitTcpArea, as_tcp}
+use Rattle.narc_reading.specs.Reading.{IsReadBy}
 use Rattle.narc_reading.specs.declared.error.BadLine.{BadLine}
-use Rattle.narc_reading.specs.declared.parts.Separator.TheVariants.{Space}
-use Rattle.narc_reading.proofs.OptionParts.{IsOutside-space, lacks-word, IsTextOption-tcp, IsTextOption-ip, as_tcp-word, hex_word-injective}
+use Rattle.narc_reading.proofs.OptionParts.{hex_word-injective}
 use Rattle.narc_reading.proofs.PacketWords.{readable-packet, text-words}
 use Rattle.narc_reading.proofs.SamePackets.{same-arp, same-udp, same-tcp, same-ipv4, same-packet}
-use Rattle.narc_reading.proofs.Separated.{Lacks, Lacks-each, Lacks-join, Lacks-hex_word, Lacks-encode_lower, parts_of-join, join-parts_of}
-use Rattle.narc_reading.proofs.WordParts.{Lacks-decimal, Lacks-decimals}
 use Rattle.narc_reading.proofs.WordsApart.{encode_lower-injective, ip_word-injective, fragment-injective, flags_word-injective, tcp_options_word-injective, ip_options_word-injective}
 
 -- packets with the same words are the same

@@ -15,7 +15,7 @@ use Rattle.narc_reading.specs.Parts.{parts_of}
 use Rattle.narc_reading.specs.Reading.{FitIpArea, FitTcpArea, as_tcp}
 use Rattle.narc_reading.specs.declared.parts.Separator.TheVariants.{Point}
 use Rattle.narc_reading.proofs.DigitLanes.{octets_of-encode_lower}
-use Rattle.narc_reading.proofs.Separated.{Lacks, parts_of-join, parts_of-none}
+use Rattle.narc_reading.proofs.Separated.{parts_of-join, parts_of-none}
 use Rattle.narc_reading.proofs.OptionLoops.{HaveWords, list-parts, lacks-each}
 use Rattle.narc_reading.proofs.OptionParts.{tcp-readable, ip-readable, as_tcp-word}
 use Rattle.narc_reading.proofs.WordParts.{Lacks-decimals}

@@ -10,7 +10,7 @@ use crate::hex_digits::decode;
 use narc_bits::known_octets;
 use std::marker::Model;
 
-/// What stands between parts: an octet that no number, address or option has.
+/// What stands between parts.
 #[derive(Clone, Copy, Drop)]
 pub(crate) enum Separator {
     Space,

@@ -36,7 +36,7 @@ overflow_add-number c =
 pub returns-in_err-read_digit : goal.returns-in_err-read_digit
 returns-in_err-read_digit c =
     let i = c.loop-digit.digit-index in
-    IsReadBy-refused (λ n. n) decimal (λ n. n < c.args.limit) c.args.digits.now c.from_residual.result c.from_residual.ensures.0
+    IsReadBy-refused (λ n. n) decimal (λ n. n < c.args.limit) _ _ c.from_residual.ensures.0
     (λ v small e. no-digit v i (omega arith) (omega (arith, ap length e)) (λ d low is. c.in_err-read_digit.ensures d low (ap (λ l. get_or l i 0) e ∙ is)))
 
 pub loop-digit-preserved : goal.loop-digit-preserved

@@ -15,12 +15,12 @@ returns-in_default c = λ block is e.
 
 pub returns-in_err-left : goal.returns-in_err-left
 returns-in_err-left c =
-    IsReadBy-refused {T = SackBlock} (λ block. block) block_word IsSackBlock c.args.word.now c.from_residual.result c.from_residual.ensures.0
+    IsReadBy-refused {T = SackBlock} (λ block. block) block_word IsSackBlock _ _ c.from_residual.ensures.0
     (λ block is e. c.in_err-left.ensures block.left is.0 (first (sym c.in-Some.ensures ∙ ap (parts_of 45) e ∙ block-parts block is)))
 
 pub returns-in_err-right : goal.returns-in_err-right
 returns-in_err-right c =
-    IsReadBy-refused {T = SackBlock} (λ block. block) block_word IsSackBlock c.args.word.now c.from_residual-in_err-right.result c.from_residual-in_err-right.ensures.0
+    IsReadBy-refused {T = SackBlock} (λ block. block) block_word IsSackBlock _ _ c.from_residual-in_err-right.ensures.0
     (λ block is e.
     c.in_err-right.ensures block.right is.1
     (last-word 45 c.in-Some.right.now (decimal block.right) (others (sym c.in-Some.ensures ∙ ap (parts_of 45) e ∙ block-parts block is))))

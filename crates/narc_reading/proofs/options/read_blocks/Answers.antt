@@ -16,7 +16,7 @@ returns-in_err-read_block c =
     let i = c.loop-next.invariant in
     let blocks = c.loop-next.blocks in
     let word = c.args.word.now in
-    IsReadBy-refused (λ blocks. sack_blocks_in blocks.spelled.now) blocks_word AreSackBlocks word c.from_residual.result c.from_residual.ensures.0
+    IsReadBy-refused (λ blocks. sack_blocks_in blocks.spelled.now) blocks_word AreSackBlocks _ _ c.from_residual.ensures.0
     (no-block word c.in-Ok.next.now c.next.new.self blocks (i.parts ∙ ap (λ l. map block_word blocks ++ l) c.in-Ok.ensures.ok) i.each c.in_err-read_block.ensures)
 
 pub slice_bounds-front-end : goal.slice_bounds-front-end

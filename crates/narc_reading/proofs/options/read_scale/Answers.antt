@@ -8,12 +8,12 @@ use Rattle.narc_reading.proofs.options.read_scale.Goals as goal
 
 pub returns-in_err-shift : goal.returns-in_err-shift
 returns-in_err-shift c =
-    IsReadBy-refused tcp_option_view option_rest (IsNamed (codes "scale")) c.args.parts.now c.from_residual.result c.from_residual.ensures.0
+    IsReadBy-refused tcp_option_view option_rest (IsNamed (codes "scale")) _ _ c.from_residual.ensures.0
     (λ o is. scale-only (Differs c.args.parts.now) o is.1 (λ shift is e. c.in_err-shift.ensures shift [] is e) is.0)
 
 pub returns-in_err-end : goal.returns-in_err-end
 returns-in_err-end c =
-    IsReadBy-refused tcp_option_view option_rest (IsNamed (codes "scale")) c.args.parts.now c.from_residual-in_err-end.result c.from_residual-in_err-end.ensures.0
+    IsReadBy-refused tcp_option_view option_rest (IsNamed (codes "scale")) _ _ c.from_residual-in_err-end.ensures.0
     (λ o is. scale-only (Differs c.args.parts.now) o is.1 (λ shift is e. c.in_err-end.ensures.err (behind c.in_ok-shift.ensures.1 e)) is.0)
 
 pub returns : goal.returns

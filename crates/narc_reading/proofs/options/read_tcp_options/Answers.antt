@@ -12,7 +12,7 @@ pub returns-in_err-push_tcp_option-clause-read : goal.returns-in_err-push_tcp_op
 returns-in_err-push_tcp_option-clause-read c =
     let word = c.args.word.now in
     let front = c.loop-next.options in
-    IsReadBy-refused (λ options. tcp_options_in options.spelled.now) tcp_options_word FitTcpArea word c.from_residual.result c.from_residual.ensures.0
+    IsReadBy-refused (λ options. tcp_options_in options.spelled.now) tcp_options_word FitTcpArea _ _ c.from_residual.ensures.0
     (no-options tcp_option_word tcp_option IsTcpOption tcp-readable word c.in-Ok.next.now c.next.new.self front (refused c.is_word.result c.if-is_word.false c.is_word.ensures.1)
     (c.loop-next.invariant.parts ∙ ap (λ l. map tcp_option_word front ++ l) c.in-Ok.ensures.ok) c.loop-next.invariant.fits c.in_err-push_tcp_option.ensures.err)
 

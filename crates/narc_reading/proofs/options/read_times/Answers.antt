@@ -1,4 +1,4 @@
-use Rattle.std.proofs.Common.{[], ◌∷◌, codes, decimal, refl}
+use Rattle.std.proofs.Common.{[], codes, decimal, refl}
 use Rattle.narc_packet.specs.PacketView.{tcp_option_view}
 use Rattle.narc_reading.specs.OptionParts.{option_rest, IsNamed}
 use Rattle.narc_reading.proofs.OptionNames.{times-only}
@@ -8,17 +8,17 @@ use Rattle.narc_reading.proofs.options.read_times.Goals as goal
 
 pub returns-in_err-value : goal.returns-in_err-value
 returns-in_err-value c =
-    IsReadBy-refused tcp_option_view option_rest (IsNamed (codes "ts")) c.args.parts.now c.from_residual.result c.from_residual.ensures.0
-    (λ o is. times-only (Differs c.args.parts.now) o is.1 (λ value echo is e. c.in_err-value.ensures value (decimal echo ∷ []) is.0 e) is.0)
+    IsReadBy-refused tcp_option_view option_rest (IsNamed (codes "ts")) _ _ c.from_residual.ensures.0
+    (λ o is. times-only (Differs c.args.parts.now) o is.1 (λ value echo is e. c.in_err-value.ensures value _ is.0 e) is.0)
 
 pub returns-in_err-echo : goal.returns-in_err-echo
 returns-in_err-echo c =
-    IsReadBy-refused tcp_option_view option_rest (IsNamed (codes "ts")) c.args.parts.now c.from_residual-in_err-echo.result c.from_residual-in_err-echo.ensures.0
+    IsReadBy-refused tcp_option_view option_rest (IsNamed (codes "ts")) _ _ c.from_residual-in_err-echo.ensures.0
     (λ o is. times-only (Differs c.args.parts.now) o is.1 (λ value echo is e. c.in_err-echo.ensures echo [] is.1 (behind c.in_ok-value.ensures.1 e)) is.0)
 
 pub returns-in_err-end : goal.returns-in_err-end
 returns-in_err-end c =
-    IsReadBy-refused tcp_option_view option_rest (IsNamed (codes "ts")) c.args.parts.now c.from_residual-in_err-end.result c.from_residual-in_err-end.ensures.0
+    IsReadBy-refused tcp_option_view option_rest (IsNamed (codes "ts")) _ _ c.from_residual-in_err-end.ensures.0
     (λ o is. times-only (Differs c.args.parts.now) o is.1 (λ value echo is e. c.in_err-end.ensures.err (behind c.in_ok-echo.ensures.1 (behind c.in_ok-value.ensures.1 e))) is.0)
 
 pub returns : goal.returns

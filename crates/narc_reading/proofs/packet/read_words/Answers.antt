@@ -1,4 +1,4 @@
-use Rattle.std.proofs.Common.{◌∷◌, codes, ◌≡◌, length, sym, ◌∙◌, subst}
+use Rattle.std.proofs.Common.{codes, ◌≡◌, length, sym, ◌∙◌, subst}
 use Rattle.narc_packet.specs.PacketView.{PacketView, view, eth_body_view}
 use Rattle.narc_packet.specs.TextWords.{mac_word}
 use Rattle.narc_text.specs.PacketText.{eth_body_words, packet_words}
@@ -12,12 +12,12 @@ use Rattle.narc_reading.proofs.packet.read_words.Goals as goal
 
 pub returns-in_err-dst-clause-read : goal.returns-in_err-dst-clause-read
 returns-in_err-dst-clause-read c =
-    IsReadBy-refused view packet_words IsWellFormed c.args.words.now c.from_residual-in_err-dst.result c.from_residual-in_err-dst.ensures.0
-    (λ p is e. c.in_err-dst.ensures p.dst (mac_word p.src ∷ eth_body_words p.body) is.dst (behind c.in_ok-expect.ensures.ok (e)))
+    IsReadBy-refused view packet_words IsWellFormed _ _ c.from_residual-in_err-dst.ensures.0
+    (λ p is e. c.in_err-dst.ensures p.dst _ is.dst (behind c.in_ok-expect.ensures.ok (e)))
 
 pub returns-in_err-src-clause-read : goal.returns-in_err-src-clause-read
 returns-in_err-src-clause-read c =
-    IsReadBy-refused view packet_words IsWellFormed c.args.words.now c.from_residual-in_err-src.result c.from_residual-in_err-src.ensures.0
+    IsReadBy-refused view packet_words IsWellFormed _ _ c.from_residual-in_err-src.ensures.0
     (λ p is e. c.in_err-src.ensures p.src (eth_body_words p.body) is.src (behind c.in_ok-dst.ensures.1 (behind c.in_ok-expect.ensures.ok (e))))
 
 pub returns-else-is_well_formed-clause-read : goal.returns-else-is_well_formed-clause-read

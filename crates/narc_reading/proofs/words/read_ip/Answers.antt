@@ -9,31 +9,31 @@ use Rattle.narc_reading.proofs.words.read_ip.Goals as goal
 pub returns-in_err-a : goal.returns-in_err-a
 returns-in_err-a c =
     let word = c.args.word.now in
-    IsReadBy-refused (λ v. v) ip_word IsIp word c.from_residual.result c.from_residual.ensures.0
+    IsReadBy-refused (λ v. v) ip_word IsIp _ _ c.from_residual.ensures.0
     (λ v is e.
     let p = IpParts-ip_word word v is e in
-    c.in_err-a.ensures p.a (decimal p.b ∷ decimal p.c ∷ decimal p.d ∷ []) p.four.first (c.of-parts.ensures ∙ p.four.parts))
+    c.in_err-a.ensures p.a _ p.four.first (c.of-parts.ensures ∙ p.four.parts))
 
 pub returns-in_err-b : goal.returns-in_err-b
 returns-in_err-b c =
     let word = c.args.word.now in
-    IsReadBy-refused (λ v. v) ip_word IsIp word c.from_residual-in_err-b.result c.from_residual-in_err-b.ensures.0
+    IsReadBy-refused (λ v. v) ip_word IsIp _ _ c.from_residual-in_err-b.ensures.0
     (λ v is e.
     let p = IpParts-ip_word word v is e in
-    c.in_err-b.ensures p.b (decimal p.c ∷ decimal p.d ∷ []) p.four.second (behind c.in_ok-a.ensures.1 (c.of-parts.ensures ∙ p.four.parts)))
+    c.in_err-b.ensures p.b _ p.four.second (behind c.in_ok-a.ensures.1 (c.of-parts.ensures ∙ p.four.parts)))
 
 pub returns-in_err-c : goal.returns-in_err-c
 returns-in_err-c c =
     let word = c.args.word.now in
-    IsReadBy-refused (λ v. v) ip_word IsIp word c.from_residual-in_err-c.result c.from_residual-in_err-c.ensures.0
+    IsReadBy-refused (λ v. v) ip_word IsIp _ _ c.from_residual-in_err-c.ensures.0
     (λ v is e.
     let p = IpParts-ip_word word v is e in
-    c.in_err-c.ensures p.c (decimal p.d ∷ []) p.four.third (behind c.in_ok-b.ensures.1 (behind c.in_ok-a.ensures.1 (c.of-parts.ensures ∙ p.four.parts))))
+    c.in_err-c.ensures p.c _ p.four.third (behind c.in_ok-b.ensures.1 (behind c.in_ok-a.ensures.1 (c.of-parts.ensures ∙ p.four.parts))))
 
 pub returns-in_err-d : goal.returns-in_err-d
 returns-in_err-d c =
     let word = c.args.word.now in
-    IsReadBy-refused (λ v. v) ip_word IsIp word c.from_residual-in_err-d.result c.from_residual-in_err-d.ensures.0
+    IsReadBy-refused (λ v. v) ip_word IsIp _ _ c.from_residual-in_err-d.ensures.0
     (λ v is e.
     let p = IpParts-ip_word word v is e in
     c.in_err-d.ensures p.d [] p.four.fourth (behind c.in_ok-c.ensures.1 (behind c.in_ok-b.ensures.1 (behind c.in_ok-a.ensures.1 (c.of-parts.ensures ∙ p.four.parts)))))
@@ -41,7 +41,7 @@ returns-in_err-d c =
 pub returns-in_err-end : goal.returns-in_err-end
 returns-in_err-end c =
     let word = c.args.word.now in
-    IsReadBy-refused (λ v. v) ip_word IsIp word c.from_residual-in_err-end.result c.from_residual-in_err-end.ensures.0
+    IsReadBy-refused (λ v. v) ip_word IsIp _ _ c.from_residual-in_err-end.ensures.0
     (λ v is e.
     let p = IpParts-ip_word word v is e in
     c.in_err-end.ensures.err (behind c.in_ok-d.ensures.1 (behind c.in_ok-c.ensures.1 (behind c.in_ok-b.ensures.1 (behind c.in_ok-a.ensures.1 (c.of-parts.ensures ∙ p.four.parts))))))

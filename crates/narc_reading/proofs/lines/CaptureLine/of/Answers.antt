@@ -6,5 +6,5 @@ use Rattle.narc_reading.proofs.lines.CaptureLine.of.Goals as goal
 
 pub returns-in_err-snap : goal.returns-in_err-snap
 returns-in_err-snap c =
-    IsReadBy-refused {T = CaptureLine} (λ head. head) (λ head. capture_words (unit_word head.unit) head.snap) (λ head. head.snap < 2 ^ 32) c.args.words.now c.from_residual-in_err-snap.result c.from_residual-in_err-snap.ensures.0
+    IsReadBy-refused {T = CaptureLine} (λ head. head) (λ head. capture_words (unit_word head.unit) head.snap) (λ head. head.snap < 2 ^ 32) _ _ c.from_residual-in_err-snap.ensures.0
     (λ head is e. c.in_err-snap.ensures head.snap [] is (behind c.in_ok-unit.ensures.1 (behind c.in_ok-expect.ensures.ok e)))

@@ -8,12 +8,12 @@ use Rattle.narc_reading.proofs.lines.EndLine.of.Goals as goal
 
 pub returns-in_err-packets : goal.returns-in_err-packets
 returns-in_err-packets c =
-    IsReadBy-refused {T = EndLine} (λ last. last) (λ last. end_words last.packets last.packets 0 0) (λ last. last.packets < 10 ^ 19) c.args.words.now c.from_residual-in_err-packets.result c.from_residual-in_err-packets.ensures.0
-    (λ last is e. c.in_err-packets.ensures last.packets (decimal 0 ∷ decimal 0 ∷ []) is (behind c.in_ok-records.ensures.1 (behind c.in_ok-expect.ensures.ok e)))
+    IsReadBy-refused {T = EndLine} (λ last. last) (λ last. end_words last.packets last.packets 0 0) (λ last. last.packets < 10 ^ 19) _ _ c.from_residual-in_err-packets.ensures.0
+    (λ last is e. c.in_err-packets.ensures last.packets _ is (behind c.in_ok-records.ensures.1 (behind c.in_ok-expect.ensures.ok e)))
 
 pub returns-in_err-expect-2 : goal.returns-in_err-expect-2
 returns-in_err-expect-2 c =
-    IsReadBy-refused {T = EndLine} (λ last. last) (λ last. end_words last.packets last.packets 0 0) (λ last. last.packets < 10 ^ 19) c.args.words.now c.from_residual-in_err-expect-2.result c.from_residual-in_err-expect-2.ensures.0
+    IsReadBy-refused {T = EndLine} (λ last. last) (λ last. end_words last.packets last.packets 0 0) (λ last. last.packets < 10 ^ 19) _ _ c.from_residual-in_err-expect-2.ensures.0
     (λ last is e.
     c.in_err-expect-2.ensures.err (decimal 0 ∷ [])
     (behind c.in_ok-packets.ensures.1 (behind c.in_ok-records.ensures.1 (behind c.in_ok-expect.ensures.ok e)) ∙ ap (λ w. w ∷ decimal 0 ∷ []) zero-word))
