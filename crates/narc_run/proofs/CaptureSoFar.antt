@@ -21,9 +21,9 @@ use Rattle.narc_run.specs.Findings.{Told, Findings, AreTold, frames, frame_cost}
 use Rattle.narc_run.specs.Output.{capture_body, capture_end, body, output}
 use Rattle.narc_run.specs.Verdict.{verdict, verdict_of, end_verdict, records_status}
 use Rattle.narc_run.specs.Run.{WroteFront}
-use Rattle.narc_run.specs.StreamRun.{Takes, Overtakes, StreamRun, Judged, Broken, Overrun, Stopped, StoppedBehind}
+use Rattle.narc_run.specs.StreamRun.{Takes, Overtakes, StreamRun, EndsStream, Judged, Broken, Overrun, Stopped, StoppedBehind}
 use Rattle.narc_run.proofs.FrameAnswers.{no_findings}
-use Rattle.narc_run.proofs.Walks.{Walks, Walks-start, Walks-end, ReadSoFar, entries_of, cost}
+use Rattle.narc_run.proofs.Walks.{Call, Walks, Walks-start, Walks-end, ReadSoFar, entries_of, cost}
 
 abbrev pub found_of : List Told → Findings
 found_of told = record no_findings { records = told }
@@ -69,59 +69,66 @@ settled_at z e f same (inr bad) = inr (same ∙ bad)
 
 -- ---- octets behind those that were read so far
 
-module _ (j : CaptureJob) (reader now : Reading) (x y z a d : Option (List ℕ)) (s0 s1 : ℕ) (so_far : ReadSoFar reader x y s0 s1) where
+-- how a walk ends behind the call
+abbrev pub WalkRun : Call → (status at : ℕ) → Type 0
+WalkRun w status at = StreamRun (Capture w.job) w.left_first w.left_now w.held_first w.held_now w.steps_first w.steps status at
+
+abbrev pub WalkEnds : Call → Result Outcome Failed → Type 0
+WalkEnds w r = EndsStream (Capture w.job) w.left_first w.left_now w.held_first w.held_now w.steps_first w.steps r
+
+module _ (w : Call) (so_far : ReadSoFar w.reader w.left_first w.left w.steps_first w.steps) where
   abbrev octets : List ℕ
-  octets = so_far.past ++ now.hand
+  octets = so_far.past ++ (w.now).hand
 
   abbrev told : List Told
   told = so_far.told
 
   abbrev lines : List ℕ
-  lines = capture_body j (Some reader.header) told
+  lines = capture_body w.job (Some (w.reader).header) told
 
-  took : Holds reader now y z → TakesFront octets x z
+  took : Holds w.reader w.now w.left w.left_now → TakesFront octets w.left_first w.left_now
   took holds =
-      let joined : (so_far.past ++ reader.hand) ++ holds.pulled ≡ octets = append_assoc so_far.past reader.hand holds.pulled ∙ ap (λ l. so_far.past ++ l) (sym holds.hand) in
-      subst (λ l. TakesFront l x z) joined (TakesFront-append (so_far.past ++ reader.hand) holds.pulled x y z so_far.took holds.took)
+      let joined : (so_far.past ++ (w.reader).hand) ++ holds.pulled ≡ octets = append_assoc so_far.past (w.reader).hand holds.pulled ∙ ap (λ l. so_far.past ++ l) (sym holds.hand) in
+      subst (λ l. TakesFront l w.left_first w.left_now) joined (TakesFront-append (so_far.past ++ (w.reader).hand) holds.pulled w.left_first w.left w.left_now so_far.took holds.took)
 
-  took_past : (e : Exceeds reader now y z) → TakesFront (octets ++ e.octet ∷ []) x z
+  took_past : (e : Exceeds w.reader w.now w.left w.left_now) → TakesFront (octets ++ e.octet ∷ []) w.left_first w.left_now
   took_past e =
-      let joined : (so_far.past ++ reader.hand) ++ (e.pulled ++ e.octet ∷ []) ≡ octets ++ e.octet ∷ [] =
-      append_assoc so_far.past reader.hand (e.pulled ++ e.octet ∷ []) ∙ ap (λ l. so_far.past ++ l) (sym (append_assoc reader.hand e.pulled (e.octet ∷ [])))
-      ∙ sym (append_assoc so_far.past (reader.hand ++ e.pulled) (e.octet ∷ [])) ∙ ap (λ l. (so_far.past ++ l) ++ e.octet ∷ []) (sym e.hand) in
-      subst (λ l. TakesFront l x z) joined (TakesFront-append (so_far.past ++ reader.hand) (e.pulled ++ e.octet ∷ []) x y z so_far.took e.took)
+      let joined : (so_far.past ++ (w.reader).hand) ++ (e.pulled ++ e.octet ∷ []) ≡ octets ++ e.octet ∷ [] =
+      append_assoc so_far.past (w.reader).hand (e.pulled ++ e.octet ∷ []) ∙ ap (λ l. so_far.past ++ l) (sym (append_assoc (w.reader).hand e.pulled (e.octet ∷ [])))
+      ∙ sym (append_assoc so_far.past ((w.reader).hand ++ e.pulled) (e.octet ∷ [])) ∙ ap (λ l. (so_far.past ++ l) ++ e.octet ∷ []) (sym e.hand) in
+      subst (λ l. TakesFront l w.left_first w.left_now) joined (TakesFront-append (so_far.past ++ (w.reader).hand) (e.pulled ++ e.octet ∷ []) w.left_first w.left w.left_now so_far.took e.took)
 
-  size : now.place ≡ reader.place → length octets ≡ taken now
-  size place = omega (arith, length-append so_far.past now.hand, so_far.place, place)
+  size : (w.now).place ≡ (w.reader).place → length octets ≡ taken w.now
+  size place = omega (arith, length-append so_far.past (w.now).hand, so_far.place, place)
 
   right : AreTold (entries_of told) told
   right = record { same = refl; right = (so_far.walks).right }
 
-  ends_with : (end : End) → front reader.header.big reader.place now.hand ≡ Err end
-      → capture octets ≡ headed reader.header (record { entries = entries_of told; end = end })
-  ends_with end is = Walks-end reader.header so_far.past now.hand told end so_far.walks (ap (λ n. front reader.header.big n now.hand) (sym so_far.place) ∙ is)
+  ends_with : (end : End) → front (w.reader).header.big (w.reader).place (w.now).hand ≡ Err end
+      → capture octets ≡ headed (w.reader).header (record { entries = entries_of told; end = end })
+  ends_with end is = Walks-end (w.reader).header so_far.past (w.now).hand told end so_far.walks (ap (λ n. front (w.reader).header.big n (w.now).hand) (sym so_far.place) ∙ is)
 
-  takes : (end : End) → Holds reader now y z → taken now ≤ CAPTURE_LIMIT → front reader.header.big reader.place now.hand ≡ Err end → Takes (Capture j) x z a d s0 s1 octets
+  takes : (end : End) → Holds w.reader w.now w.left w.left_now → taken w.now ≤ CAPTURE_LIMIT → front (w.reader).header.big (w.reader).place (w.now).hand ≡ Err end → Takes (Capture w.job) w.left_first w.left_now w.held_first w.held_now w.steps_first w.steps octets
   takes end holds reach is = record {
     took = took holds;
     fits = omega (arith, size holds.place, reach);
     reach = omega (arith, size holds.place, reach);
-    steps = omega (arith, so_far.cheap, cost_is octets reader.header told end (ends_with end is) j);
+    steps = omega (arith, so_far.cheap, cost_is octets (w.reader).header told end (ends_with end is) w.job);
   }
 
-  overtakes : (end : End) → capture octets ≡ headed reader.header (record { entries = entries_of told; end = end }) → Exceeds reader now y z → Overtakes (Capture j) x z a d s0 s1 octets
+  overtakes : (end : End) → capture octets ≡ headed (w.reader).header (record { entries = entries_of told; end = end }) → Exceeds w.reader w.now w.left w.left_now → Overtakes (Capture w.job) w.left_first w.left_now w.held_first w.held_now w.steps_first w.steps octets
   overtakes end whole holds = record {
     octet = holds.octet;
     took = took_past holds;
     long = size holds.place ∙ holds.reached;
     limit = refl;
-    steps = omega (arith, so_far.cheap, cost_is octets reader.header told end whole j);
+    steps = omega (arith, so_far.cheap, cost_is octets (w.reader).header told end whole w.job);
   }
 
-  module _ (end : End) (holds : Holds reader now y z) (is : front reader.header.big reader.place now.hand ≡ Err end) (reach : taken now ≤ CAPTURE_LIMIT)
-      (settled : IsEmptyWhereTold z ⊎ IsTrue (is_bad end)) where
+  module _ (end : End) (holds : Holds w.reader w.now w.left w.left_now) (is : front (w.reader).header.big (w.reader).place (w.now).hand ≡ Err end) (reach : taken w.now ≤ CAPTURE_LIMIT)
+      (settled : IsEmptyWhereTold w.left_now ⊎ IsTrue (is_bad end)) where
     -- the capture ended, or a bad place was shown
-    pub judged : (o : Outcome) → verdict_of o.status o.at ≡ end_verdict (records_status j told) end → Appends (lines ++ capture_end j told end) a d → StreamRun (Capture j) x z a d s0 s1 o.status o.at
+    pub judged : (o : Outcome) → verdict_of o.status o.at ≡ end_verdict (records_status w.job told) end → Appends (lines ++ capture_end w.job told end) w.held_first w.held_now → WalkRun w o.status o.at
     judged o v wrote =
         let whole = ends_with end is in
         Judged (record {
@@ -130,13 +137,13 @@ module _ (j : CaptureJob) (reader now : Reading) (x y z a d : Option (List ℕ))
           within = λ h. (takes end holds reach is).fits;
           found = record {
             found = found_of told;
-            are = are_told octets reader.header told end whole right;
-            holds = (v ∙ sym (verdict_is octets reader.header told end whole j), settled_at z (capture octets).end end (bad_is octets reader.header told end whole) settled, subst (λ l. Appends l a d) (sym (output_is octets reader.header told end whole j)) wrote);
+            are = are_told octets (w.reader).header told end whole right;
+            holds = (v ∙ sym (verdict_is octets (w.reader).header told end whole w.job), settled_at w.left_now (capture octets).end end (bad_is octets (w.reader).header told end whole) settled, subst (λ l. Appends l w.held_first w.held_now) (sym (output_is octets (w.reader).header told end whole w.job)) wrote);
           };
         })
 
     -- the sink failed at the end
-    pub stopped_last : (f : Failed) → WroteFront (lines ++ capture_end j told end) a d → StreamRun (Capture j) x z a d s0 s1 6 0
+    pub stopped_last : (f : Failed) → WroteFront (lines ++ capture_end w.job told end) w.held_first w.held_now → WalkRun w 6 0
     stopped_last f wrote =
         let whole = ends_with end is in
         Stopped (record {
@@ -145,16 +152,16 @@ module _ (j : CaptureJob) (reader now : Reading) (x y z a d : Option (List ℕ))
           told = refl;
           found = record {
             found = found_of told;
-            are = are_told octets reader.header told end whole right;
-            holds = inr (settled_at z (capture octets).end end (bad_is octets reader.header told end whole) settled, subst (λ l. WroteFront l a d) (sym (output_is octets reader.header told end whole j)) wrote);
+            are = are_told octets (w.reader).header told end whole right;
+            holds = inr (settled_at w.left_now (capture octets).end end (bad_is octets (w.reader).header told end whole) settled, subst (λ l. WroteFront l w.held_first w.held_now) (sym (output_is octets (w.reader).header told end whole w.job)) wrote);
           };
         })
 
-  module _ (holds : Holds reader now y z) (short : IsShort (front reader.header.big reader.place now.hand)) (reach : taken now ≤ CAPTURE_LIMIT) where
+  module _ (holds : Holds w.reader w.now w.left w.left_now) (short : IsShort (front (w.reader).header.big (w.reader).place (w.now).hand)) (reach : taken w.now ≤ CAPTURE_LIMIT) where
     -- the source failed
-    pub broken : (o : Outcome) → verdict_of o.status o.at ≡ verdict_of 5 (taken now) → Appends lines a d → StreamRun (Capture j) x z a d s0 s1 o.status o.at
+    pub broken : (o : Outcome) → verdict_of o.status o.at ≡ verdict_of 5 (taken w.now) → Appends lines w.held_first w.held_now → WalkRun w o.status o.at
     broken o v wrote =
-        let e = short_end (front reader.header.big reader.place now.hand) short in
+        let e = short_end (front (w.reader).header.big (w.reader).place (w.now).hand) short in
         let whole = ends_with e.end e.is in
         Broken (record {
           octets = octets;
@@ -162,15 +169,15 @@ module _ (j : CaptureJob) (reader now : Reading) (x y z a d : Option (List ℕ))
           told = v ∙ ap (verdict_of 5) (sym (size holds.place));
           found = record {
             found = found_of told;
-            are = are_told octets reader.header told e.end whole right;
-            holds = subst (λ l. Appends l a d) (sym (body_is octets reader.header told e.end whole j)) wrote;
+            are = are_told octets (w.reader).header told e.end whole right;
+            holds = subst (λ l. Appends l w.held_first w.held_now) (sym (body_is octets (w.reader).header told e.end whole w.job)) wrote;
           };
         })
 
     -- the sink failed behind it
-    pub stopped_short : (f : Failed) → WroteFront lines a d → StreamRun (Capture j) x z a d s0 s1 6 0
+    pub stopped_short : (f : Failed) → WroteFront lines w.held_first w.held_now → WalkRun w 6 0
     stopped_short f wrote =
-        let e = short_end (front reader.header.big reader.place now.hand) short in
+        let e = short_end (front (w.reader).header.big (w.reader).place (w.now).hand) short in
         let whole = ends_with e.end e.is in
         Stopped (record {
           octets = octets;
@@ -178,16 +185,16 @@ module _ (j : CaptureJob) (reader now : Reading) (x y z a d : Option (List ℕ))
           told = refl;
           found = record {
             found = found_of told;
-            are = are_told octets reader.header told e.end whole right;
-            holds = inl (subst (λ l. WroteFront l a d) (sym (body_is octets reader.header told e.end whole j)) wrote);
+            are = are_told octets (w.reader).header told e.end whole right;
+            holds = inl (subst (λ l. WroteFront l w.held_first w.held_now) (sym (body_is octets (w.reader).header told e.end whole w.job)) wrote);
           };
         })
 
-  module _ (holds : Exceeds reader now y z) (short : IsShort (front reader.header.big reader.place now.hand)) where
+  module _ (holds : Exceeds w.reader w.now w.left w.left_now) (short : IsShort (front (w.reader).header.big (w.reader).place (w.now).hand)) where
     -- the limit was passed
-    pub overrun : (o : Outcome) → verdict_of o.status o.at ≡ verdict_of 7 CAPTURE_LIMIT → Appends lines a d → StreamRun (Capture j) x z a d s0 s1 o.status o.at
+    pub overrun : (o : Outcome) → verdict_of o.status o.at ≡ verdict_of 7 CAPTURE_LIMIT → Appends lines w.held_first w.held_now → WalkRun w o.status o.at
     overrun o v wrote =
-        let e = short_end (front reader.header.big reader.place now.hand) short in
+        let e = short_end (front (w.reader).header.big (w.reader).place (w.now).hand) short in
         let whole = ends_with e.end e.is in
         Overrun (record {
           octets = octets;
@@ -195,18 +202,18 @@ module _ (j : CaptureJob) (reader now : Reading) (x y z a d : Option (List ℕ))
           told = v;
           found = record {
             found = found_of told;
-            are = are_told octets reader.header told e.end whole right;
+            are = are_told octets (w.reader).header told e.end whole right;
             holds = (
-              bad_is octets reader.header told e.end whole ∙ e.good,
-              subst (λ l. Appends l a d) (sym (body_is octets reader.header told e.end whole j)) wrote,
+              bad_is octets (w.reader).header told e.end whole ∙ e.good,
+              subst (λ l. Appends l w.held_first w.held_now) (sym (body_is octets (w.reader).header told e.end whole w.job)) wrote,
             );
           };
         })
 
     -- the sink failed behind it
-    pub stopped_behind : (f : Failed) → WroteFront lines a d → StreamRun (Capture j) x z a d s0 s1 6 0
+    pub stopped_behind : (f : Failed) → WroteFront lines w.held_first w.held_now → WalkRun w 6 0
     stopped_behind f wrote =
-        let e = short_end (front reader.header.big reader.place now.hand) short in
+        let e = short_end (front (w.reader).header.big (w.reader).place (w.now).hand) short in
         let whole = ends_with e.end e.is in
         StoppedBehind (record {
           octets = octets;
@@ -214,8 +221,8 @@ module _ (j : CaptureJob) (reader now : Reading) (x y z a d : Option (List ℕ))
           told = refl;
           found = record {
             found = found_of told;
-            are = are_told octets reader.header told e.end whole right;
-            holds = subst (λ l. WroteFront l a d) (sym (body_is octets reader.header told e.end whole j)) wrote;
+            are = are_told octets (w.reader).header told e.end whole right;
+            holds = subst (λ l. WroteFront l w.held_first w.held_now) (sym (body_is octets (w.reader).header told e.end whole w.job)) wrote;
           };
         })
 

@@ -3,7 +3,8 @@ use Rattle.std.proofs.Common.{◌≡◌, ◌≢◌, ℕ, ◌≤◌, inl, inr, Li
 use Rattle.narc_run.specs.declared.outcome.Outcome.{Outcome}
 use Rattle.narc_run.specs.Job.{Job, Unread, Version}
 use Rattle.narc_run.specs.Output.{usage_line}
-use Rattle.narc_run.specs.Run.{Run, run_of, IsRightRun, IsRight, WhereTold, left_for}
+use Rattle.narc_run.specs.Run.{Run, IsRightRun, IsRight, WhereTold, left_for}
+use Rattle.narc_run.specs.StreamRun.{run_of}
 use Rattle.narc_run.specs.UnreadRun.{UsageRun}
 use Rattle.narc_run.proofs.Jobs.{taken_is, Appends-same}
 
@@ -46,7 +47,7 @@ module _ (j : Job) (takes : j ≢ Unread Version)
       source = λ h. absurd (omega (arith, four, h));
       sink = λ h. absurd (omega (arith, four, h));
     };
-    unread = λ none. unread;
+    unread = λ none. (unread, λ h. omega (arith, four, h));
     writing = ([], Appends-same before after same);
     octets = where_told (IsRightRun unmet) told (left_for (Some j) left);
   }

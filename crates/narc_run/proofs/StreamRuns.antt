@@ -10,8 +10,8 @@ use Rattle.narc_run.specs.Job.{Job}
 use Rattle.narc_run.specs.Findings.{Findings, Found, AreFindings, frames, frame_cost}
 use Rattle.narc_run.specs.Output.{body, output}
 use Rattle.narc_run.specs.Verdict.{Verdict, verdict, verdict_of, is_decided}
-use Rattle.narc_run.specs.Run.{Run, run_of, WhereTold, WroteFront, HasStatusOf, IsDone, IsMalformed, LeavesBody, LeavesFront, PassesLimit, IsRightRun, IsRight, AreCounted, most, left_for, taken, counted}
-use Rattle.narc_run.specs.StreamRun.{Takes, Overtakes, Judges, Breaks, Overruns, Stops, StopsBehind, StreamRun, Judged, Broken, Overrun, Stopped, StoppedBehind}
+use Rattle.narc_run.specs.Run.{Run, WhereTold, WroteFront, HasStatusOf, IsDone, IsMalformed, LeavesBody, LeavesFront, PassesLimit, IsRightRun, IsRight, AreCounted, most, left_for, taken, counted}
+use Rattle.narc_run.specs.StreamRun.{Takes, Overtakes, Judges, Breaks, Overruns, Stops, StopsBehind, StreamRun, Judged, Broken, Overrun, Stopped, StoppedBehind, run_of}
 use Rattle.narc_run.proofs.Jobs.{taken_is}
 
 -- what was found of octets that decide is found of all octets that they begin
@@ -299,7 +299,7 @@ statuses j steady x z before after s0 s1 status at (StoppedBehind f) = by_status
 -- all that is promised of a run
 pub right_stream : (j : Job) → IsSteady j → (left left_after before after : Option (List ℕ)) (source_before source_after sink_before sink_after steps_before steps_after : ℕ) (o : Outcome)
     → StreamRun j (left_for (Some j) left) (left_for (Some j) left_after) before after steps_before steps_after o.status o.at
-    → AreCounted o.status o.at source_before source_after sink_before sink_after → (NothingRead NothingWritten : Type 0) → (most j ≡ 0 → NothingRead)
+    → AreCounted o.status o.at source_before source_after sink_before sink_after → (NothingRead NothingWritten : Type 0) → (most j ≡ 0 → NothingRead × (o.status ≢ 5))
     → IsRight (run_of (Some j) left left_after before after source_before source_after sink_before sink_after steps_before steps_after o.status o.at) NothingRead NothingWritten
 right_stream j steady left left_after before after source_before source_after sink_before sink_after steps_before steps_after o run faults NothingRead NothingWritten nothing =
     let x = left_for (Some j) left in

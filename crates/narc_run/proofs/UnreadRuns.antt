@@ -11,8 +11,8 @@ use Rattle.narc_run.specs.Job.{UnreadJob, Unread, Trial, Version}
 use Rattle.narc_run.specs.Findings.{Found, frames, frame_cost}
 use Rattle.narc_run.specs.Output.{output, trial_line, version_line}
 use Rattle.narc_run.specs.Verdict.{verdict_of}
-use Rattle.narc_run.specs.Run.{WroteFront, IsRight, run_of}
-use Rattle.narc_run.specs.StreamRun.{Takes, StreamRun, Judged, Stopped}
+use Rattle.narc_run.specs.Run.{WroteFront, IsRight}
+use Rattle.narc_run.specs.StreamRun.{Takes, StreamRun, Judged, Stopped, run_of}
 use Rattle.narc_run.specs.UnreadRun.{UnreadRun, IsToldOrCut}
 use Rattle.narc_run.proofs.FrameAnswers.{no_findings}
 use Rattle.narc_run.proofs.RightJobs.{without_memory}
@@ -127,7 +127,7 @@ right_unread u left before after source sink_before sink_after steps_before step
         sink_later = (run.faults).later;
         source = λ h. elim told.holds [ inl all ↦ absurd (omega (arith, h, all.0)) | inr cut ↦ absurd (omega (arith, h, cut.0)) ];
         sink = λ h. ((run.faults).cause h, run.place);
-      }) NothingRead NothingWritten (λ none. nothing)
+      }) NothingRead NothingWritten (λ none. (nothing, λ h. elim told.holds [ inl all ↦ omega (arith, h, all.0) | inr cut ↦ omega (arith, h, cut.0) ]))
   | inr lacks ↦ without_memory (Unread u) (λ same. let version : u ≡ Version = cc in lacks.0 version) left before after (lacks.1).held source sink_before sink_after (run.faults).later
       steps_before steps_after (omega (arith, (lacks.1).same_steps)) o (lacks.1).told run.place NothingRead NothingWritten nothing (lacks.1).unwritten
 ]

@@ -26,9 +26,9 @@ use Rattle.narc_run.specs.Verdict.{verdict_of}
 use Rattle.narc_run.specs.Run.{WroteFront}
 use Rattle.narc_run.specs.Visiting.{HasRoom, Closes, Finishes}
 use Rattle.narc_run.specs.StreamRun.{IsShown, EndsStream, StreamRun, Stopped}
-use Rattle.narc_run.proofs.Walks.{Walks, ReadSoFar, entries_of, cost, cost-append}
+use Rattle.narc_run.proofs.Walks.{Call, Walks, ReadSoFar, entries_of, cost, cost-append}
 use Rattle.narc_run.proofs.Answered.{all_answered, AreTold-append}
-use Rattle.narc_run.proofs.CaptureSoFar.{found_of, judged, stopped_last, broken, stopped_short, overrun, stopped_behind, headless_judged, headless_stopped}
+use Rattle.narc_run.proofs.CaptureSoFar.{found_of, WalkEnds, judged, stopped_last, broken, stopped_short, overrun, stopped_behind, headless_judged, headless_stopped}
 
 -- What was read of a capture was seen, and what is printed is its body so far.
 pub record VisitsSoFar (j : CaptureJob) (Saw : Option Header → List Told → Type 0) (reader : Reading) (page : List ℕ) (left left_now held held_now : Option (List ℕ)) (steps steps_now : ℕ) : Type 0 where
@@ -124,37 +124,37 @@ module _ (j : CaptureJob) (Saw : Option Header → List Told → Type 0) (fresh 
   headless page empty saw settled (Err f) h =
       headless_stopped j fresh now x z a d s is_fresh holds reach end is settled f (subst (λ l. WroteFront (l ++ capture_end j [] end) a d) empty (h None [] saw))
 
-module _ (j : CaptureJob) (Saw : Option Header → List Told → Type 0) (reader now : Reading) (page : List ℕ) (x y z a b c : Option (List ℕ)) (s0 s1 : ℕ) (so_far : ReadSoFar reader x y s0 s1)
-    (printed : Passes (capture_body j (Some reader.header) so_far.told) page a b) where
+module _ (w : Call) (Saw : Option Header → List Told → Type 0) (page : List ℕ) (b : Option (List ℕ)) (so_far : ReadSoFar w.reader w.left_first w.left w.steps_first w.steps)
+    (printed : Passes (capture_body w.job (Some (w.reader).header) so_far.told) page w.held_first b) where
   abbrev lines : List ℕ
-  lines = capture_body j (Some reader.header) so_far.told
+  lines = capture_body w.job (Some (w.reader).header) so_far.told
 
   -- the capture ended, or a bad place was shown
-  ended : Saw (Some reader.header) so_far.told → (end : End) → Holds reader now y z → front reader.header.big reader.place now.hand ≡ Err end → taken now ≤ CAPTURE_LIMIT
-      → IsEmptyWhereTold z ⊎ IsTrue (is_bad end) → (r : Result Outcome Failed) → Finishes j Saw end r page b c → EndsStream (Capture j) x z a c s0 s1 r
+  ended : Saw (Some (w.reader).header) so_far.told → (end : End) → Holds w.reader w.now w.left w.left_now → front (w.reader).header.big (w.reader).place (w.now).hand ≡ Err end → taken w.now ≤ CAPTURE_LIMIT
+      → IsEmptyWhereTold w.left_now ⊎ IsTrue (is_bad end) → (r : Result Outcome Failed) → Finishes w.job Saw end r page b w.held_now → WalkEnds w r
   ended saw end holds is reach settled (Ok o) h =
-      let shown = h (Some reader.header) so_far.told saw in
-      judged j reader now x y z a c s0 s1 so_far end holds is reach settled o shown.0
-      (pushed_page lines page (capture_end j so_far.told end) a b c printed shown.1)
+      let shown = h (Some (w.reader).header) so_far.told saw in
+      judged w so_far end holds is reach settled o shown.0
+      (pushed_page lines page (capture_end w.job so_far.told end) w.held_first b w.held_now printed shown.1)
   ended saw end holds is reach settled (Err f) h =
-      stopped_last j reader now x y z a c s0 s1 so_far end holds is reach settled f
-      (cut_page lines page (capture_end j so_far.told end) a b c printed (h (Some reader.header) so_far.told saw))
+      stopped_last w so_far end holds is reach settled f
+      (cut_page lines page (capture_end w.job so_far.told end) w.held_first b w.held_now printed (h (Some (w.reader).header) so_far.told saw))
 
   -- the source failed
-  broke : Holds reader now y z → IsShort (front reader.header.big reader.place now.hand) → taken now ≤ CAPTURE_LIMIT
-      → (r : Result Outcome Failed) → IsShown r page (verdict_of 5 (taken now)) b c → EndsStream (Capture j) x z a c s0 s1 r
-  broke holds short reach (Ok o) h = broken j reader now x y z a c s0 s1 so_far holds short reach o h.0 (pushed_whole lines page a b c printed h.1)
-  broke holds short reach (Err f) h = stopped_short j reader now x y z a c s0 s1 so_far holds short reach f (cut_whole lines page a b c printed h)
+  broke : Holds w.reader w.now w.left w.left_now → IsShort (front (w.reader).header.big (w.reader).place (w.now).hand) → taken w.now ≤ CAPTURE_LIMIT
+      → (r : Result Outcome Failed) → IsShown r page (verdict_of 5 (taken w.now)) b w.held_now → WalkEnds w r
+  broke holds short reach (Ok o) h = broken w so_far holds short reach o h.0 (pushed_whole lines page w.held_first b w.held_now printed h.1)
+  broke holds short reach (Err f) h = stopped_short w so_far holds short reach f (cut_whole lines page w.held_first b w.held_now printed h)
 
   -- the limit was passed
-  overran : Exceeds reader now y z → IsShort (front reader.header.big reader.place now.hand)
-      → (r : Result Outcome Failed) → IsShown r page (verdict_of 7 CAPTURE_LIMIT) b c → EndsStream (Capture j) x z a c s0 s1 r
-  overran holds short (Ok o) h = overrun j reader now x y z a c s0 s1 so_far holds short o h.0 (pushed_whole lines page a b c printed h.1)
-  overran holds short (Err f) h = stopped_behind j reader now x y z a c s0 s1 so_far holds short f (cut_whole lines page a b c printed h)
+  overran : Exceeds w.reader w.now w.left w.left_now → IsShort (front (w.reader).header.big (w.reader).place (w.now).hand)
+      → (r : Result Outcome Failed) → IsShown r page (verdict_of 7 CAPTURE_LIMIT) b w.held_now → WalkEnds w r
+  overran holds short (Ok o) h = overrun w so_far holds short o h.0 (pushed_whole lines page w.held_first b w.held_now printed h.1)
+  overran holds short (Err f) h = stopped_behind w so_far holds short f (cut_whole lines page w.held_first b w.held_now printed h)
 
   -- the reader found no further record
-  pub closed : Saw (Some reader.header) so_far.told → (last : Next) → IsNext reader now y z last → taken now ≤ CAPTURE_LIMIT
-      → (r : Result Outcome Failed) → Closes j Saw last (taken now) r page b c → EndsStream (Capture j) x z a c s0 s1 r
+  pub closed : Saw (Some (w.reader).header) so_far.told → (last : Next) → IsNext w.reader w.now w.left w.left_now last → taken w.now ≤ CAPTURE_LIMIT
+      → (r : Result Outcome Failed) → Closes w.job Saw last (taken w.now) r page b w.held_now → WalkEnds w r
   closed saw (next.Rec head) found reach r h = absurd h
   closed saw next.End found reach r h = ended saw Clean found.0 found.1 reach (inl found.2) r h
   closed saw (next.Torn at) found reach r h = ended saw (Torn at) found.0 found.1 reach (inl found.2) r h

@@ -9,7 +9,7 @@ use Rattle.narc_run.specs.Job.{Job}
 use Rattle.narc_run.specs.Findings.{Findings, Found, frames, frame_cost}
 use Rattle.narc_run.specs.Output.{body, output}
 use Rattle.narc_run.specs.Verdict.{Verdict, verdict, verdict_of, is_decided}
-use Rattle.narc_run.specs.Run.{WroteFront, most}
+use Rattle.narc_run.specs.Run.{Run, WroteFront, most}
 
 -- these octets were pushed and the outcome is this, or the sink failed and a front of them was pushed
 abbrev pub IsShown : Result Outcome Failed → (octets : List ℕ) → Verdict → (held_before held_after : Option (List ℕ)) → Type 0
@@ -83,3 +83,21 @@ module _ (j : Job) (left_before left_after held_before held_after : Option (List
   abbrev pub EndsStream : Result Outcome Failed → Type 0
   EndsStream (Ok outcome) = StreamRun outcome.status outcome.at
   EndsStream (Err e) = StreamRun 6 0
+
+-- a run, by what is known of source, sink and steps before and after it
+abbrev pub run_of : (asked : Option Job) → (left_before left_after held_before held_after : Option (List ℕ)) → (source_before source_after sink_before sink_after steps_before steps_after status at : ℕ) → Run
+run_of asked left_before left_after held_before held_after source_before source_after sink_before sink_after steps_before steps_after status at = record {
+  asked = asked;
+  left_before = left_before;
+  left_after = left_after;
+  held_before = held_before;
+  held_after = held_after;
+  source_before = source_before;
+  source_after = source_after;
+  sink_before = sink_before;
+  sink_after = sink_after;
+  steps_before = steps_before;
+  steps_after = steps_after;
+  status = status;
+  at = at;
+}

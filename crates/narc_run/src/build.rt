@@ -3,8 +3,8 @@ ghost use Rattle.std.specs.Prelude.{◌≡◌, ℕ, length};
 ghost use Rattle.narc_world.specs.declared.buffers.TheConstants.{STORE_BUFFER};
 ghost use Rattle.narc_build.specs.declared.limits.TheConstants.{LINE_BUFFER, OUTPUT_BUFFER};
 ghost use Rattle.narc_run.specs.Job.{Build};
-ghost use Rattle.narc_run.specs.Run.{AreCounted, IsRight, run_of};
-ghost use Rattle.narc_run.specs.StreamRun.{StreamRun};
+ghost use Rattle.narc_run.specs.Run.{AreCounted, IsRight};
+ghost use Rattle.narc_run.specs.StreamRun.{StreamRun, run_of};
 
 use crate::outcome::Outcome;
 use crate::steps::RunSteps;

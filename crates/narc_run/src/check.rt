@@ -4,7 +4,8 @@ ghost use Rattle.narc_packet.specs.declared.field.TheConstants.{COUNT};
 ghost use Rattle.narc_run.specs.Job.{Capture, Check};
 ghost use Rattle.narc_run.specs.Output.{check_end, refused_line};
 ghost use Rattle.narc_run.specs.Counting.{AreCounts, counts_lines, refusal_lines};
-ghost use Rattle.narc_run.specs.Run.{IsRight, run_of};
+ghost use Rattle.narc_run.specs.Run.{IsRight};
+ghost use Rattle.narc_run.specs.StreamRun.{run_of};
 
 use crate::counts::{Counts, NUMBERS};
 use crate::entry::judge_record;

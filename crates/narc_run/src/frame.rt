@@ -8,9 +8,9 @@ ghost use Rattle.narc_text.specs.Lines.{ok_line};
 ghost use Rattle.narc_text.specs.Printing.{IsPrinted};
 ghost use Rattle.narc_run.specs.Output.{answer_line, refusal_line};
 ghost use Rattle.narc_run.specs.FrameAnswer.{IsAnswered, IsCut};
-ghost use Rattle.narc_run.specs.StreamRun.{StreamRun};
+ghost use Rattle.narc_run.specs.StreamRun.{StreamRun, run_of};
 ghost use Rattle.narc_run.specs.Job.{Frame};
-ghost use Rattle.narc_run.specs.Run.{AreCounted, IsRight, run_of};
+ghost use Rattle.narc_run.specs.Run.{AreCounted, IsRight};
 
 use crate::input::{Filled, fill};
 use crate::outcome::Outcome;

@@ -5,7 +5,8 @@ ghost use Rattle.narc_text.specs.Printing.{IsPrinted};
 ghost use Rattle.narc_run.specs.Job.{Capture, Show};
 ghost use Rattle.narc_run.specs.Output.{header_line};
 ghost use Rattle.narc_run.specs.Tallies.{tally_line, tally_of};
-ghost use Rattle.narc_run.specs.Run.{IsRight, run_of};
+ghost use Rattle.narc_run.specs.Run.{IsRight};
+ghost use Rattle.narc_run.specs.StreamRun.{run_of};
 
 use crate::entry::{answer_record, print_record};
 use crate::outcome::Outcome;

@@ -3,9 +3,9 @@ ghost use Rattle.std.specs.Prelude.{◌≡◌, ◌≤◌, ◌++◌, [], None, le
 ghost use Rattle.narc_world.specs.Outside.{CountsFaults};
 ghost use Rattle.narc_text.specs.Printing.{IsPrinted};
 ghost use Rattle.narc_run.specs.Visiting.{Closes, Ends, Finishes};
-ghost use Rattle.narc_run.specs.StreamRun.{EndsStream, IsShown, StreamRun};
+ghost use Rattle.narc_run.specs.StreamRun.{EndsStream, IsShown, StreamRun, run_of};
 ghost use Rattle.narc_run.specs.Job.{Capture};
-ghost use Rattle.narc_run.specs.Run.{AreCounted, IsRight, run_of};
+ghost use Rattle.narc_run.specs.Run.{AreCounted, IsRight};
 
 use crate::outcome::Outcome;
 use crate::steps::RunSteps;

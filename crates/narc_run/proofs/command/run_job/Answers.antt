@@ -2,7 +2,8 @@ use Rattle.std.proofs.Common.{◌≡◌, Option, refl, sym, ap, subst}
 use Rattle.narc_run.specs.declared.job.Job.TheVariants as variant
 use Rattle.narc_run.specs.Job.{Job, Trial, Version}
 use Rattle.narc_run.specs.JobView.{job_view}
-use Rattle.narc_run.specs.Run.{IsRight, run_of}
+use Rattle.narc_run.specs.Run.{IsRight}
+use Rattle.narc_run.specs.StreamRun.{run_of}
 use Rattle.narc_run.proofs.Jobs.{asked_as}
 use Rattle.narc_run.proofs.RightJobs.{right_usage}
 use Rattle.narc_run.proofs.UnreadRuns.{right_unread, version-later}

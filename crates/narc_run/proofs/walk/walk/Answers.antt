@@ -12,7 +12,7 @@ use Rattle.narc_run.specs.Run.{WroteFront}
 use Rattle.narc_run.specs.Verdict.{verdict_of}
 use Rattle.narc_run.specs.Visiting.{Closes, told_as}
 use Rattle.narc_text.proofs.Printings.{Appends-nil}
-use Rattle.narc_run.proofs.Walks.{read_record}
+use Rattle.narc_run.proofs.Walks.{Call, read_record}
 use Rattle.narc_run.proofs.CaptureSoFar.{read_start, frame_fits, headless_broken}
 use Rattle.narc_run.proofs.Visits.{read_kept, headless, closed, stopped_by, front_stopped, cut_page, cut_whole, body_more, passes_on, passes_same, has_room}
 use Rattle.narc_run.proofs.walk.walk.Goals as goal
@@ -180,8 +180,19 @@ returns-in_default-clause-run g c =
     let f = g.K.Sink.held c.close.new.sink in
     let page = c.tell_waiting.new.page in
     let last = c.next.result in
-    closed j saw c.records.reader c.next.new.self page (g.S.Source.left c.args.source.now) (g.S.Source.left c.records.source) (g.S.Source.left c.next.new.source)
-    a d f c.args.steps.now c.records.steps (i.so_far).read
+    let call : Call = record {
+      job = j;
+      reader = c.records.reader;
+      now = c.next.new.self;
+      left_first = g.S.Source.left c.args.source.now;
+      left = g.S.Source.left c.records.source;
+      left_now = g.S.Source.left c.next.new.source;
+      held_first = a;
+      held_now = f;
+      steps_first = c.args.steps.now;
+      steps = c.records.steps;
+    } in
+    closed call saw page d (i.so_far).read
     (passes_same (capture_body j (Some c.records.reader.header) ((i.so_far).read).told) c.records.page page a b d (i.so_far).printed c.in_ok-tell_waiting.ensures.printed)
     (i.so_far).saw last c.next.ensures.next c.next.ensures.reach c.close.result
     (subst (λ (n : ℕ). Closes j saw last n c.close.result page d f) c.taken-in_default.ensures.count (subst (λ (j : CaptureJob). Closes j saw last c.taken-in_default.result c.close.result page d f) i.job c.close.ensures.printed))
