@@ -1,6 +1,7 @@
 //! Tests, by what they are about.
 mod again;
 mod captures;
+mod line_reader;
 mod lines;
 mod memory;
 mod options;
@@ -8,3 +9,4 @@ mod reading;
 mod std_sink;
 mod std_source;
 mod texts;
+mod written;

@@ -1,10 +1,12 @@
 -- How octets are cut as a capture.
-use Rattle.std.specs.Prelude.{◌≡◌, ℕ, ◌+◌, ◌≤◌, ◌↔◌, Bool, not, ◌&&◌, List, [], ◌∷◌, ◌++◌, length, take, nat_eq, nat_lt, Ok, if◌then◌else◌}
+use Rattle.std.specs.Prelude.{◌≡◌, ℕ, ◌+◌, ◌<◌, ◌≤◌, ◌^◌, ◌↔◌, Bool, not, ◌&&◌, List, [], ◌∷◌, ◌++◌, length, take, nat_eq, nat_lt, Ok, if◌then◌else◌}
 use Rattle.narc_pcap.specs.declared.header.Header.{Header}
 use Rattle.narc_pcap.specs.declared.record.TheConstants.{LONGEST_FRAME}
 use Rattle.narc_pcap.specs.declared.record.End.{End}
 use Rattle.narc_pcap.specs.declared.record.End.TheVariants.{Clean, Torn, Bad}
+use Rattle.narc_pcap.specs.declared.record.Record.{Record}
 use Rattle.narc_pcap.specs.Capture.{Entry, capture, header_of, headed, record_at}
+use Rattle.narc_pcap.specs.Written.{header_octets, head_octets}
 
 -- these octets are the record: 16 that read as its header, at this place, and its frame
 pub record IsRecord (big : Bool) (place : ℕ) (e : Entry) (octets : List ℕ) : Type 0 where
@@ -52,6 +54,26 @@ pub record IsCut (s : List ℕ) (h : Header) (entries : List Entry) (end : End) 
   pub records : AreRecords h.big 24 entries behind rest
   pub stops : BeginsNoRecord h.big (place_behind 24 entries) rest
   pub ends : end_with h.big (place_behind 24 entries) rest ≡ end
+
+-- each number of the header has four octets
+pub record IsHeaderInRange (h : Header) : Type 0 where
+  pub zone : h.zone < 2 ^ 32
+  pub accuracy : h.accuracy < 2 ^ 32
+  pub snap : h.snap < 2 ^ 32
+
+pub record IsRecordInRange (r : Record) : Type 0 where
+  pub sec : r.sec < 2 ^ 32
+  pub sub : r.sub < 2 ^ 32
+  pub captured : r.captured < 2 ^ 32
+  pub original : r.original < 2 ^ 32
+
+-- The header that is written is read, and so is the header of a record, at its place.
+abbrev pub WrittenHeadersAreRead : Type 0
+WrittenHeadersAreRead = (h : Header) → IsHeaderInRange h → header_of (header_octets h) ≡ Ok h
+
+abbrev pub WrittenRecordsAreRead : Type 0
+WrittenRecordsAreRead = (big : Bool) (r : Record) → IsRecordInRange r
+    → record_at big r.offset (head_octets big r.sec r.sub r.captured r.original) ≡ r
 
 -- A capture with a header is what its octets are cut into, and they are cut in no other way.
 abbrev pub CapturesAreCut : Type 0

@@ -34,7 +34,7 @@ steady c = record {
   few = λ s found. (end_status (capture s).end (records_status c found.records) (few_statuses c found.records)).few;
   two = λ s found. (end_status (capture s).end (records_status c found.records) (few_statuses c found.records)).two;
   decided = λ s found are bad. (end_status (capture s).end (records_status c found.records) (few_statuses c found.records)).bad bad;
-  stays = λ s more found are bad.
+  stays = λ s more found fits are bad.
       let same : capture (s ++ more) ≡ capture s = capture-decided s more bad in
       record {
         are = subst (λ (v : CaptureView). AreTold v.entries found.records) (sym same) are;

@@ -25,7 +25,7 @@ pub record IsSteady (j : Job) : Type 0 where
   pub few : (s : List ℕ) (found : Findings) → (verdict j s found).status ≤ 3
   pub two : (s : List ℕ) (found : Findings) → (verdict j s found).status ≢ 2
   pub decided : (s : List ℕ) (found : Findings) → AreFindings j s found → IsTrue (is_decided j s found) → (verdict j s found).status ≡ 3
-  pub stays : (s more : List ℕ) (found : Findings) → AreFindings j s found → IsTrue (is_decided j s found) → Stays j s more found
+  pub stays : (s more : List ℕ) (found : Findings) → length s ≤ CAPTURE_LIMIT → AreFindings j s found → IsTrue (is_decided j s found) → Stays j s more found
 
 -- the statuses that a run of the job does not have
 record Statuses (j : Job) (status : ℕ) : Type 0 where
@@ -94,8 +94,8 @@ module _ (j : Job) (steady : IsSteady j) (left left_after before after : Option 
           let three : status ≡ 3 = judged ∙ steady.decided octets found are decided in
           let size : CAPTURE_LIMIT ≡ length octets + k = omega (arith, takes.fits) in
           let within : take CAPTURE_LIMIT input ≡ octets ++ take k rest = ap (take CAPTURE_LIMIT) takes.took ∙ ap (λ n. take n (octets ++ rest)) size ∙ take-append-add octets rest k in
-          let all = steady.stays octets rest found are decided in
-          let some_ = steady.stays octets (take k rest) found are decided in (
+          let all = steady.stays octets rest found takes.fits are decided in
+          let some_ = steady.stays octets (take k rest) found takes.fits are decided in (
             λ h. record {
               found = found;
               are = subst (λ (s : List ℕ). AreFindings j s found) (sym takes.took) all.are;

@@ -92,7 +92,7 @@ steady u = record {
   few = λ s found. omega arith;
   two = λ s found h. omega (arith, h);
   decided = λ s found are no_. cc;
-  stays = λ s more found are no_. cc;
+  stays = λ s more found fits are no_. cc;
 }
 
 module _ (u : UnreadJob) (before after : Option (List ℕ)) (steps steps_after : ℕ) (o : Outcome) (place : o.at ≡ 0) (cheap : steps_after ≤ steps + sum_by frame_cost (frames (Unread u) [])) where

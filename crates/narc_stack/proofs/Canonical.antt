@@ -78,11 +78,15 @@ module _ (p : Ipv4View) (w : IsWellFormedIpv4 p) where
         sum_range = omega arith;
       }
 
+  pub canonical_size : length (canonical_ipv4 p) ≡ 20 + length ip_options + smallest_length p.body
+  canonical_size =
+      let sum = checksum (header 0) in
+      omega (arith, length-append (header sum) its_data, header_length sum, canonical_length p.src p.dst p.body)
+
   pub canonical_few : length (canonical_ipv4 p) ≤ 65535
   canonical_few =
-      let sum = checksum (header 0) in
       let short = w.fits in
-      omega (arith, length-append (header sum) its_data, header_length sum, canonical_length p.src p.dst p.body, short)
+      omega (arith, canonical_size, short)
 
   pub canonical_each : IsOctets (canonical_ipv4 p)
   canonical_each =

@@ -7,7 +7,8 @@ use Rattle.narc_packet.specs.PacketView.{EthBodyView, ArpBody, Ipv4Body, OtherBo
 use Rattle.narc_packet.specs.Frame.{IsEthBody, IsFrame, arp_octets, ether_type_of}
 use Rattle.narc_packet.specs.Canonical.{padded, canonical_eth_body, canonical_frame}
 use Rattle.narc_packet.specs.Ipv4.{canonical_ipv4}
-use Rattle.narc_packet.specs.Ranges.{IsMac}
+use Rattle.narc_packet.specs.declared.packet.Arp.{Arp}
+use Rattle.narc_packet.specs.Ranges.{IsMac, IsArpInRange}
 use Rattle.narc_packet.specs.WellFormed.{IsWellFormedEthBody, IsWellFormed}
 use Rattle.narc_eth.proofs.ArpLayout.{arp_layout}
 use Rattle.narc_stack.specs.Admitted.{IsAdmittedBody, IsAdmitted}
@@ -15,7 +16,7 @@ use Rattle.narc_stack.proofs.Canonical.{canonical_few, canonical_is_frame}
 use Rattle.narc_stack.proofs.FrameAdmits.{admitted_of}
 
 -- the octets behind the header
-front_length : (dst src : List ℕ) (t : ℕ) (content : List ℕ) → IsMac dst → IsMac src → length (dst ++ src ++ big_endian 2 t ++ content) ≡ 14 + length content
+pub front_length : (dst src : List ℕ) (t : ℕ) (content : List ℕ) → IsMac dst → IsMac src → length (dst ++ src ++ big_endian 2 t ++ content) ≡ 14 + length content
 front_length dst src t content d s =
     let front = dst ++ src ++ big_endian 2 t in
     omega (arith, length-append front content, length-append (dst ++ src) (big_endian 2 t), length-append dst src, d.0, s.0)
@@ -28,8 +29,12 @@ body_admitted (OtherBody t payload) h = (h.0, h.1, h.2, h.4)
 pub well_formed_admitted : (p : PacketView) → IsWellFormed p → IsAdmitted p
 well_formed_admitted p h = record { dst = h.dst; src = h.src; body = body_admitted p.body h.body }
 
-padded_length : (l : List ℕ) → length (padded l) ≡ length l + (46 - length l)
+pub padded_length : (l : List ℕ) → length (padded l) ≡ length l + (46 - length l)
 padded_length l = omega (arith, length-append l (replicate (46 - length l) 0), length-replicate {A = ℕ} (46 - length l) 0)
+
+-- the data of a frame with an ARP packet
+pub arp_size : (a : Arp) → IsArpInRange a → length (canonical_eth_body (ArpBody a)) ≡ 46
+arp_size a h = omega (arith, padded_length (arp_octets a), arp_layout.shape.sized a h)
 
 body_small : (b : EthBodyView) → IsWellFormedEthBody b → 14 + length (canonical_eth_body b) ≤ MAX_FRAME
 body_small (ArpBody a) h = omega (arith, padded_length (arp_octets a), arp_layout.shape.sized a h)

@@ -38,6 +38,13 @@ returns-in-Some-Check g c =
     (g.S.Source.faults c.args.source.now) (g.S.Source.faults c.run_check.new.source) (g.K.Sink.faults c.args.sink.now) (g.K.Sink.faults c.run_check.new.sink)
     c.args.steps.now c.run_check.new.steps c.run_check.result.status c.run_check.result.at) (c.run_check.new.source ≡ c.args.source.now) (c.run_check.new.sink ≡ c.args.sink.now)) (asked_as _ c.in-Some-Check.field-0 variant.Check c.in-Some-Check.is same) c.run_check.ensures
 
+pub returns-in-Some-Build : goal.returns-in-Some-Build
+returns-in-Some-Build g c =
+    let same = rw c.in-Some-Build.is at c.in-Some-Build.field-0-is in
+    subst (λ (asked : Option Job). IsRight (run_of asked (g.S.Source.left c.args.source.now) (g.S.Source.left c.run_build.new.source) (g.K.Sink.held c.args.sink.now) (g.K.Sink.held c.run_build.new.sink)
+    (g.S.Source.faults c.args.source.now) (g.S.Source.faults c.run_build.new.source) (g.K.Sink.faults c.args.sink.now) (g.K.Sink.faults c.run_build.new.sink)
+    c.args.steps.now c.run_build.new.steps c.run_build.result.status c.run_build.result.at) (c.run_build.new.source ≡ c.args.source.now) (c.run_build.new.sink ≡ c.args.sink.now)) (asked_as _ c.in-Some-Build.field-0 variant.Build c.in-Some-Build.is same) c.run_build.ensures
+
 pub returns-in-Some-Trial : goal.returns-in-Some-Trial
 returns-in-Some-Trial g c =
     let same = rw c.in-Some-Trial.is at c.in-Some-Trial.field-0-is in

@@ -1,0 +1,12 @@
+pub mod CaptureFronts
+pub mod TextLines
+pub mod TextFacts
+pub mod TextDecides
+pub mod TextStays
+pub mod TextSoFar
+pub mod TextStarts
+pub mod Builds
+pub mod TextRuns
+pub mod TextEnds
+pub mod TextEnded
+pub mod BuiltLines

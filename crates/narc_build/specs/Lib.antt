@@ -1,0 +1,5 @@
+pub mod CaptureFront
+pub mod BuiltCapture
+pub mod BuiltLine
+pub mod Building
+pub mod TextEnd

@@ -1,0 +1,7 @@
+//! Texts as streams of lines.
+#![tactic(auto)]
+
+mod feed;
+mod reader;
+
+pub use reader::{Behind, LineReader, NextLine};
