@@ -10,6 +10,7 @@ mod EndsSteps
 mod PortSteps
 mod HeaderFields
 mod AddressSteps
+mod LongNumbers
 mod TransportFields
 mod PatchedIpv4
 mod Ipv4Parts

@@ -1,5 +1,5 @@
 -- A frame of a datagram or a segment with one field of its header assigned.
-use Rattle.std.proofs.Common.{◌≡◌, ℕ, ◌+◌, ◌*◌, ◌/◌, ◌%◌, ◌<◌, ◌≤◌, ◌≢◌, ◌^◌, List, [], ◌∷◌, ◌++◌, length, take, drop, fold, refl, sym, ap, ◌∙◌, subst, add-zero, arith, lit<, lit≤, length-append}
+use Rattle.std.proofs.Common.{◌≡◌, ℕ, ◌+◌, ◌*◌, ◌/◌, ◌%◌, ◌<◌, ◌≤◌, ◌≢◌, ◌^◌, List, ◌∷◌, ◌++◌, length, fold, refl, sym, ap, ◌∙◌, subst, add-zero, arith, lit<, lit≤, length-append}
 use Rattle.narc_bits.specs.Bits.{overlay}
 use Rattle.narc_bits.specs.Octets.{big_endian, number_at}
 use Rattle.narc_bits.proofs.Octets.{IsOctets-big_endian}
@@ -9,6 +9,7 @@ use Rattle.narc_packet.specs.Udp.{udp_octets}
 use Rattle.narc_packet.specs.Tcp.{tcp_octets}
 use Rattle.narc_patch.specs.Change.{changed, with_octets}
 use Rattle.narc_patch.specs.Patched.{whole, part, words, udp_sums, tcp_sums}
+use Rattle.narc_patch.proofs.LongNumbers.{long_high, long_low}
 use Rattle.narc_patch.proofs.Places.{number-between}
 use Rattle.narc_patch.proofs.HeaderSteps.{IsIpv4Frame}
 use Rattle.narc_patch.proofs.SummedChanges.{IsWordChange}
@@ -51,31 +52,6 @@ module _ (mac_dst mac_src : List ℕ) (start size : ℕ) (ip : Ipv4View) where
         let to : UdpView = record u { dport = v } in
         let field : IsUdpField u to 2 (big_endian 2 v) = record { overlaid = udp_dport_overlaid v; as_long = refl; in_range = record { sport = range.sport; dport = small; payload = range.payload }; word = word_change 8 6 2 v (lit≤ tt) (lit≤ tt) (apart 6 2 (lit< tt)) } in
         udp_step mac_dst mac_src start size ip 2 (big_endian 2 v) frame u to field f
-
--- one word of a number of two
-long_high : (n high : ℕ) → big_endian 2 high ++ drop 2 (big_endian 4 n) ≡ big_endian 4 (high * 65536 + n % 65536)
-long_high n high =
-    let m = high * 65536 + n % 65536 in
-    let a : high / 256 % 256 ≡ m / 16777216 % 256 = omega arith in
-    let b : high % 256 ≡ m / 65536 % 256 = omega arith in
-    let c : n / 256 % 256 ≡ m / 256 % 256 = omega arith in
-    let d : n % 256 ≡ m % 256 = omega arith in
-    ap (λ x. x ∷ (high % 256) ∷ (n / 256 % 256) ∷ (n % 256) ∷ []) a
-    ∙ ap (λ x. (m / 16777216 % 256) ∷ x ∷ (n / 256 % 256) ∷ (n % 256) ∷ []) b
-    ∙ ap (λ x. (m / 16777216 % 256) ∷ (m / 65536 % 256) ∷ x ∷ (n % 256) ∷ []) c
-    ∙ ap (λ x. (m / 16777216 % 256) ∷ (m / 65536 % 256) ∷ (m / 256 % 256) ∷ x ∷ []) d
-
-long_low : (n low : ℕ) → low < 65536 → take 2 (big_endian 4 n) ++ big_endian 2 low ≡ big_endian 4 (n / 65536 * 65536 + low)
-long_low n low h =
-    let m = n / 65536 * 65536 + low in
-    let a : n / 16777216 % 256 ≡ m / 16777216 % 256 = omega (arith, h) in
-    let b : n / 65536 % 256 ≡ m / 65536 % 256 = omega (arith, h) in
-    let c : low / 256 % 256 ≡ m / 256 % 256 = omega (arith, h) in
-    let d : low % 256 ≡ m % 256 = omega (arith, h) in
-    ap (λ x. x ∷ (n / 65536 % 256) ∷ (low / 256 % 256) ∷ (low % 256) ∷ []) a
-    ∙ ap (λ x. (m / 16777216 % 256) ∷ x ∷ (low / 256 % 256) ∷ (low % 256) ∷ []) b
-    ∙ ap (λ x. (m / 16777216 % 256) ∷ (m / 65536 % 256) ∷ x ∷ (low % 256) ∷ []) c
-    ∙ ap (λ x. (m / 16777216 % 256) ∷ (m / 65536 % 256) ∷ (m / 256 % 256) ∷ x ∷ []) d
 
 module _ (mac_dst mac_src : List ℕ) (start size : ℕ) (ip : Ipv4View) where
   abbrev TcpFrame : TcpView → List ℕ → Type 0
