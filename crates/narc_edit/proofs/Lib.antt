@@ -1,0 +1,4 @@
+mod Assigning
+mod EditedWellFormed
+mod Spellings
+mod Guesses

@@ -1,0 +1,4 @@
+pub mod WordValues
+pub mod Assignments
+pub mod Edited
+pub mod Ranges

@@ -1,0 +1,2 @@
+pub mod MendedSums
+pub mod SumWords

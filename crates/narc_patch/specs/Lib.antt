@@ -1,0 +1,4 @@
+pub mod Change
+pub mod Patched
+pub mod Room
+pub mod Laws
