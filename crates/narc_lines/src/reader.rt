@@ -108,6 +108,7 @@ impl LineReader {
     }
 
     /// What the octets in hand begin with.
+    #[inline(always)]
     fn ahead(&mut self) -> Ahead
         ensures same { self.new ≡ self.old }
         ensures ahead { IsAhead self.old.longest self.old.input.hand result }

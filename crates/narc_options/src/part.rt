@@ -18,6 +18,7 @@ impl<'a> Part<Cursor<'a>> for OptionAreaPart {
 
     ghost meaning = { option_area };
 
+    #[inline(always)]
     fn read<L: Ledger>(
         ctx: usize,
         cursor: &mut Cursor<'a>,

@@ -56,6 +56,7 @@ impl<I: Input> Format<I> for Octets6 {
         48
     }
 
+    #[inline(always)]
     fn write(_ctx: (), value: &[u8; 6], room: &mut [u8], writer: &mut Writer) {
         put_octets(value, room, writer);
     }
@@ -94,6 +95,7 @@ impl<I: Input> Format<I> for Octets4 {
         32
     }
 
+    #[inline(always)]
     fn write(_ctx: (), value: &[u8; 4], room: &mut [u8], writer: &mut Writer) {
         put_octets(value, room, writer);
     }
