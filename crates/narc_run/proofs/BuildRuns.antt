@@ -1,9 +1,8 @@
 -- The job `build` is steady, and ends as the making of a capture ends.
-use Rattle.std.proofs.Common.{◌≡◌, ℕ, ◌+◌, ◌≤◌, inl, Bool, true, false, List, length, Option, Result, Ok, Err, refl, ap, ◌∙◌, arith}
+use Rattle.std.proofs.Common.{◌≡◌, ℕ, ◌≤◌, inl, Bool, true, false, List, length, Option, Result, Ok, Err, refl, ap, ◌∙◌, arith}
 use Rattle.std.specs.Prelude.{OnErr, if◌then◌else◌}
 use Rattle.narc_world.specs.declared.error.Failed.{Failed}
-use Rattle.narc_world.specs.Outside.{Rose, CountsFaults}
-use Rattle.narc_pcap.specs.declared.limit.TheConstants.{CAPTURE_LIMIT}
+use Rattle.narc_world.specs.Outside.{CountsFaults}
 use Rattle.narc_build.specs.declared.ending.Built.{Built}
 use Rattle.narc_build.specs.declared.ending.Built.TheVariants as answer
 use Rattle.narc_build.specs.Building.{BuildRun, SourceFault, text_ending}

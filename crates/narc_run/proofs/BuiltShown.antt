@@ -1,31 +1,27 @@
 -- `show` of what is made of a text writes the text again.
-use Rattle.std.proofs.Common.{◌≡◌, ℕ, ◌+◌, ◌<◌, ◌≤◌, ◌^◌, Bool, true, false, List, [], ◌∷◌, ◌++◌, length, map, cond, drop, get_or, Option, Some, None, Result, Ok, Err, refl, sym, ap, ◌∙◌, subst, arith, append_assoc, length-append}
+use Rattle.std.proofs.Common.{◌≡◌, ℕ, ◌+◌, ◌<◌, true, List, [], ◌∷◌, ◌++◌, length, map, cond, drop, get_or, Option, Some, None, Ok, refl, ap, ◌∙◌, subst, arith, length-append}
 use Rattle.std.specs.Prelude.{count_by, flat_map}
 use Rattle.std.specs.List.{AllByRecursion}
 use Rattle.std.proofs.lemmas.Bool.{ltb-true}
 use Rattle.std.proofs.lemmas.List.Sums.{sum_by-cons}
 use Rattle.narc_packet.specs.Answer.{Answer}
 use Rattle.narc_packet.specs.Canonical.{canonical_frame}
-use Rattle.narc_packet.specs.PacketView.{PacketView}
 use Rattle.narc_stack.proofs.Canonical.{canonical_is_frame}
 use Rattle.narc_stack.proofs.WellFormed.{well_formed_admitted, canonical_small}
-use Rattle.narc_pcap.specs.declared.header.Unit.TheVariants.{Micro, Nano}
-use Rattle.narc_pcap.specs.declared.header.Header.{Header}
-use Rattle.narc_pcap.specs.declared.record.Record.{Record}
 use Rattle.narc_pcap.specs.declared.record.End.TheVariants.{Clean}
 use Rattle.narc_pcap.specs.Capture.{Entry, CaptureView, capture, headed}
-use Rattle.narc_pcap.specs.Laws.{AreRecords, IsCut, IsRecord, WrittenHeadersAreRead, WrittenRecordsAreRead, size_of}
+use Rattle.narc_pcap.specs.Laws.{AreRecords, IsRecord, size_of}
 use Rattle.narc_pcap.specs.Written.{header_octets, head_octets}
 use Rattle.narc_pcap.proofs.CaptureCuts.{captures_cut}
 use Rattle.narc_pcap.proofs.WrittenRead.{header_read, head_read}
 use Rattle.narc_pcap.proofs.WrittenSizes.{header-size, head-size}
-use Rattle.narc_text.specs.CaptureText.{TextEntry, IsTextEntry, entry_front, entry_line, end_line}
+use Rattle.narc_text.specs.CaptureText.{TextEntry, IsTextEntry, entry_line, end_line}
 use Rattle.narc_build.specs.BuiltCapture.{built_header, built_record, built_capture}
-use Rattle.narc_build.specs.CaptureFront.{TextCapture, IsTextCapture, capture_text}
-use Rattle.narc_run.specs.Job.{Capture, Show}
+use Rattle.narc_build.specs.CaptureFront.{TextCapture, IsTextCapture}
+use Rattle.narc_run.specs.Job.{Show}
 use Rattle.narc_run.specs.BuildLaws.{BuiltIsShown}
-use Rattle.narc_run.specs.Findings.{Findings, Told, IsTold, AreTold, IsEntryAnswer}
-use Rattle.narc_run.specs.Output.{header_line, capture_body, is_packet, is_refused, is_snap, last_line, output, show_answer, show_line}
+use Rattle.narc_run.specs.Findings.{Told, IsTold, AreTold, IsEntryAnswer}
+use Rattle.narc_run.specs.Output.{header_line, capture_body, is_packet, is_refused, is_snap, last_line, show_line}
 
 -- ---- the capture that is made
 

@@ -1,5 +1,5 @@
 -- What `show` and `build` are to each other.
-use Rattle.std.specs.Prelude.{◌≡◌, List, ℕ}
+use Rattle.std.specs.Prelude.{◌≡◌}
 use Rattle.narc_build.specs.BuiltCapture.{built_capture}
 use Rattle.narc_build.specs.CaptureFront.{TextCapture, IsTextCapture, capture_text}
 use Rattle.narc_run.specs.Job.{Capture, Show}

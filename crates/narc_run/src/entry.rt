@@ -4,7 +4,7 @@ ghost use Rattle.narc_world.specs.Outside.{CountsFaults};
 ghost use Rattle.narc_pcap.specs.Capture.{is_snapped};
 ghost use Rattle.narc_text.specs.CaptureText.{entry_front, snapped_line};
 ghost use Rattle.narc_text.specs.Printing.{IsPrinted};
-ghost use Rattle.narc_run.specs.EntryAnswer.{entry_answer};
+ghost use Rattle.narc_run.specs.EntryAnswer.{IsWritable, entry_answer};
 ghost use Rattle.narc_run.specs.EntryJudgement.{IsEntryJudgement};
 ghost use Rattle.narc_run.specs.Findings.{IsEntryAnswer, entry_cost};
 ghost use Rattle.narc_run.specs.Output.{show_answer};
@@ -45,6 +45,7 @@ pub(crate) fn answer_record<'a, L: Ledger, J: Ledger>(
 ) -> Answered<'a>
     requires { length octets.now ≤ MAX_FRAME }
     ensures answer { IsEntryAnswer (record { head = head.now; octets = octets.now }) (entry_answer result) }
+    ensures writable { IsWritable result }
     ensures cost { steps.new ≤ steps.old + entry_cost (record { head = head.now; octets = octets.now }) }
 {
     let frame = whole_frame(head, octets)?;

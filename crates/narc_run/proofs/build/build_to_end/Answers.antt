@@ -1,4 +1,4 @@
-use Rattle.std.proofs.Common.{ap, ◌∙◌, sym, subst, Ok, Err}
+use Rattle.std.proofs.Common.{ap, Ok, Err}
 use Rattle.narc_run.specs.declared.outcome.Outcome.{Outcome}
 use Rattle.narc_run.specs.Verdict.{verdict_of}
 use Rattle.narc_run.proofs.BuildRuns.{ends, counted}

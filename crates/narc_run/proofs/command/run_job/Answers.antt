@@ -19,35 +19,42 @@ returns-in-None g c =
 
 pub returns-in-Some-Frame : goal.returns-in-Some-Frame
 returns-in-Some-Frame g c =
-    let same = rw c.in-Some-Frame.is at c.in-Some-Frame.field-0-is in
+    let same = c.in-Some-Frame.field-0-is in
     subst (λ (asked : Option Job). IsRight (run_of asked (g.S.Source.left c.args.source.now) (g.S.Source.left c.run_frame.new.source) (g.K.Sink.held c.args.sink.now) (g.K.Sink.held c.run_frame.new.sink)
     (g.S.Source.faults c.args.source.now) (g.S.Source.faults c.run_frame.new.source) (g.K.Sink.faults c.args.sink.now) (g.K.Sink.faults c.run_frame.new.sink)
     c.args.steps.now c.run_frame.new.steps c.run_frame.result.status c.run_frame.result.at) (c.run_frame.new.source ≡ c.args.source.now) (c.run_frame.new.sink ≡ c.args.sink.now)) (asked_as _ c.in-Some-Frame.field-0 variant.Frame c.in-Some-Frame.is same) c.run_frame.ensures
 
 pub returns-in-Some-Show : goal.returns-in-Some-Show
 returns-in-Some-Show g c =
-    let same = rw c.in-Some-Show.is at c.in-Some-Show.field-0-is in
+    let same = c.in-Some-Show.field-0-is in
     subst (λ (asked : Option Job). IsRight (run_of asked (g.S.Source.left c.args.source.now) (g.S.Source.left c.run_show.new.source) (g.K.Sink.held c.args.sink.now) (g.K.Sink.held c.run_show.new.sink)
     (g.S.Source.faults c.args.source.now) (g.S.Source.faults c.run_show.new.source) (g.K.Sink.faults c.args.sink.now) (g.K.Sink.faults c.run_show.new.sink)
     c.args.steps.now c.run_show.new.steps c.run_show.result.status c.run_show.result.at) (c.run_show.new.source ≡ c.args.source.now) (c.run_show.new.sink ≡ c.args.sink.now)) (asked_as _ c.in-Some-Show.field-0 variant.Show c.in-Some-Show.is same) c.run_show.ensures
 
 pub returns-in-Some-Check : goal.returns-in-Some-Check
 returns-in-Some-Check g c =
-    let same = rw c.in-Some-Check.is at c.in-Some-Check.field-0-is in
+    let same = c.in-Some-Check.field-0-is in
     subst (λ (asked : Option Job). IsRight (run_of asked (g.S.Source.left c.args.source.now) (g.S.Source.left c.run_check.new.source) (g.K.Sink.held c.args.sink.now) (g.K.Sink.held c.run_check.new.sink)
     (g.S.Source.faults c.args.source.now) (g.S.Source.faults c.run_check.new.source) (g.K.Sink.faults c.args.sink.now) (g.K.Sink.faults c.run_check.new.sink)
     c.args.steps.now c.run_check.new.steps c.run_check.result.status c.run_check.result.at) (c.run_check.new.source ≡ c.args.source.now) (c.run_check.new.sink ≡ c.args.sink.now)) (asked_as _ c.in-Some-Check.field-0 variant.Check c.in-Some-Check.is same) c.run_check.ensures
 
+pub returns-in-Some-Rewrite : goal.returns-in-Some-Rewrite
+returns-in-Some-Rewrite g c =
+    let same = c.in-Some-Rewrite.field-0-is in
+    subst (λ (asked : Option Job). IsRight (run_of asked (g.S.Source.left c.args.source.now) (g.S.Source.left c.run_rewrite.new.source) (g.K.Sink.held c.args.sink.now) (g.K.Sink.held c.run_rewrite.new.sink)
+    (g.S.Source.faults c.args.source.now) (g.S.Source.faults c.run_rewrite.new.source) (g.K.Sink.faults c.args.sink.now) (g.K.Sink.faults c.run_rewrite.new.sink)
+    c.args.steps.now c.run_rewrite.new.steps c.run_rewrite.result.status c.run_rewrite.result.at) (c.run_rewrite.new.source ≡ c.args.source.now) (c.run_rewrite.new.sink ≡ c.args.sink.now)) (asked_as _ c.in-Some-Rewrite.field-0 (variant.Rewrite c.in-Some-Rewrite.edits) c.in-Some-Rewrite.is same) c.run_rewrite.ensures
+
 pub returns-in-Some-Build : goal.returns-in-Some-Build
 returns-in-Some-Build g c =
-    let same = rw c.in-Some-Build.is at c.in-Some-Build.field-0-is in
+    let same = c.in-Some-Build.field-0-is in
     subst (λ (asked : Option Job). IsRight (run_of asked (g.S.Source.left c.args.source.now) (g.S.Source.left c.run_build.new.source) (g.K.Sink.held c.args.sink.now) (g.K.Sink.held c.run_build.new.sink)
     (g.S.Source.faults c.args.source.now) (g.S.Source.faults c.run_build.new.source) (g.K.Sink.faults c.args.sink.now) (g.K.Sink.faults c.run_build.new.sink)
     c.args.steps.now c.run_build.new.steps c.run_build.result.status c.run_build.result.at) (c.run_build.new.source ≡ c.args.source.now) (c.run_build.new.sink ≡ c.args.sink.now)) (asked_as _ c.in-Some-Build.field-0 variant.Build c.in-Some-Build.is same) c.run_build.ensures
 
 pub returns-in-Some-Trial : goal.returns-in-Some-Trial
 returns-in-Some-Trial g c =
-    let same = rw c.in-Some-Trial.is at c.in-Some-Trial.field-0-is in
+    let same = c.in-Some-Trial.field-0-is in
     subst (λ (asked : Option Job). IsRight (run_of asked (g.S.Source.left c.args.source.now) (g.S.Source.left c.args.source.now) (g.K.Sink.held c.args.sink.now) (g.K.Sink.held c.run_trial.new.sink)
     (g.S.Source.faults c.args.source.now) (g.S.Source.faults c.args.source.now) (g.K.Sink.faults c.args.sink.now) (g.K.Sink.faults c.run_trial.new.sink)
     c.args.steps.now c.run_trial.new.steps c.run_trial.result.status c.run_trial.result.at) (c.args.source.now ≡ c.args.source.now) (c.run_trial.new.sink ≡ c.args.sink.now)) (asked_as _ c.in-Some-Trial.field-0 (variant.Trial c.in-Some-Trial.seed c.in-Some-Trial.count) c.in-Some-Trial.is same)
@@ -56,7 +63,7 @@ returns-in-Some-Trial g c =
 
 pub returns-in-Some-Version : goal.returns-in-Some-Version
 returns-in-Some-Version g c =
-    let same = rw c.in-Some-Version.is at c.in-Some-Version.field-0-is in
+    let same = c.in-Some-Version.field-0-is in
     subst (λ (asked : Option Job). IsRight (run_of asked (g.S.Source.left c.args.source.now) (g.S.Source.left c.args.source.now) (g.K.Sink.held c.args.sink.now) (g.K.Sink.held c.run_version.new.sink)
     (g.S.Source.faults c.args.source.now) (g.S.Source.faults c.args.source.now) (g.K.Sink.faults c.args.sink.now) (g.K.Sink.faults c.run_version.new.sink)
     c.args.steps.now c.args.steps.now c.run_version.result.status c.run_version.result.at) (c.args.source.now ≡ c.args.source.now) (c.run_version.new.sink ≡ c.args.sink.now)) (asked_as _ c.in-Some-Version.field-0 variant.Version c.in-Some-Version.is same)
