@@ -23,22 +23,5 @@ fragment_back n h k =
     let low = low_word n h k in
     omega (arith, low, flag_number (n / 16384 % 2) 16384 (omega arith), flag_number (n / 8192 % 2) 8192 (omega arith))
 
-flag_is : (k : ℕ) (t : Bool) → k ≡ (if t then 1 else 0) → nat_eq k 1 ≡ t
-flag_is k true h = ap (λ n. nat_eq n 1) h
-flag_is k false h = ap (λ n. nat_eq n 1) h
-
--- the flags and the offset of their word
-pub record IsFragmentOf (df mf : Bool) (offset : ℕ) : Type 0 where
-  pub df_is : nat_eq (fragment_word_of df mf offset / 16384 % 2) 1 ≡ df
-  pub mf_is : nat_eq (fragment_word_of df mf offset / 8192 % 2) 1 ≡ mf
-  pub offset_is : fragment_word_of df mf offset % 8192 ≡ offset
-  pub small : fragment_word_of df mf offset < 2 ^ 15
-
-pub fragment_of : (df mf : Bool) (offset : ℕ) → offset < 8192 → IsFragmentOf df mf offset
-fragment_of true true offset h = record { df_is = flag_is _ true (omega (arith, h)); mf_is = flag_is _ true (omega (arith, h)); offset_is = omega (arith, h); small = omega (arith, h) }
-fragment_of true false offset h = record { df_is = flag_is _ true (omega (arith, h)); mf_is = flag_is _ false (omega (arith, h)); offset_is = omega (arith, h); small = omega (arith, h) }
-fragment_of false true offset h = record { df_is = flag_is _ false (omega (arith, h)); mf_is = flag_is _ true (omega (arith, h)); offset_is = omega (arith, h); small = omega (arith, h) }
-fragment_of false false offset h = record { df_is = flag_is _ false (omega (arith, h)); mf_is = flag_is _ false (omega (arith, h)); offset_is = omega (arith, h); small = omega (arith, h) }
-
 pub no_flag : (k : ℕ) → k < 2 ^ 15 → IsTrue (is_flags tt k)
 no_flag k h = let e : k / 32768 ≡ 0 = omega (arith, h) in ap (λ n. not (nat_eq n 1)) e

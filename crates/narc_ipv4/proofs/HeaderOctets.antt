@@ -21,6 +21,7 @@ use Rattle.narc_compose.specs.Strip.{stripped}
 use Rattle.narc_sum.specs.Checked.{checked}
 use Rattle.narc_packet.specs.Ranges.{IsIp}
 use Rattle.narc_packet.specs.Ipv4.{ipv4_header, fragment_word, IsIpv4InRange}
+use Rattle.narc_packet.proofs.Ipv4Fields.{fragment_of}
 use Rattle.narc_options.proofs.Areas.{ip_area_of, area_of_ip}
 use Rattle.narc_ipv4.specs.declared.as_header.IpHeader.{IpHeader}
 use Rattle.narc_ipv4.specs.Header.{is_version, header_length_of, area_length_of, RawHeader, fragment_word_of, header_of, raw_header, ip_head}
@@ -31,7 +32,7 @@ use Rattle.narc_ipv4.proofs.HeaderChosen.{at_least, total_least, total_most, tot
 use Rattle.narc_ipv4.proofs.HeaderRead.{IsBehind, IsFields, IsComposed, composed_rows, composed_read}
 use Rattle.narc_ipv4.proofs.HeaderRows.{rows_are}
 use Rattle.narc_ipv4.proofs.BeforeSound.{IsFrontInRange}
-use Rattle.narc_ipv4.proofs.FragmentWord.{fragment_back, fragment_of, no_flag}
+use Rattle.narc_ipv4.proofs.FragmentWord.{fragment_back, no_flag}
 use Rattle.narc_ipv4.proofs.BeforeOctets.{octet_is, before_octets, two, before_is, before_ranges, before_stands, before_each}
 
 -- octets by their fields

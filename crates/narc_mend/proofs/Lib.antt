@@ -1,2 +1,3 @@
 pub mod MendedSums
-pub mod SumWords
+pub mod Differences
+pub mod Holes

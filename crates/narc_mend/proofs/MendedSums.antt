@@ -3,12 +3,13 @@ use Rattle.std.proofs.Common.{◌≡◌, ℕ, zero, suc, ◌+◌, ◌-◌, ◌%�
 use Rattle.narc_bits.specs.Octets.{number_at}
 use Rattle.narc_bits.specs.InternetSum.{total, IsGoodTotal}
 use Rattle.narc_bits.proofs.Sums.{good_total, good_multiple}
+use Rattle.narc_bits.proofs.SumWords.{around, total-at, total-with_word}
 use Rattle.narc_mend.specs.declared.mend.Zero.{Zero}
 use Rattle.narc_mend.specs.declared.mend.Zero.TheVariants.{Plain, Udp}
 use Rattle.narc_sum.specs.Checked.{never_zero}
 use Rattle.narc_sum.specs.Seals.{never_zero_small}
 use Rattle.narc_mend.specs.Mended.{as_written, mended, with_mended_sum, MendedSumsAreGood}
-use Rattle.narc_mend.proofs.SumWords.{around, around-same, total-at, total-with_word, number_at-same}
+use Rattle.narc_mend.proofs.Differences.{around-same, number_at-same}
 
 -- all ones are 0
 full : (n : ℕ) → (never_zero n % 65535 ≡ n % 65535) × (n ≤ never_zero n)

@@ -1,5 +1,5 @@
 -- The octets that stand for a segment are those of it.
-use Rattle.std.proofs.Common.{◌≡◌, ℕ, ◌+◌, ◌*◌, ◌/◌, ◌%◌, ◌^◌, ◌<◌, ◌≤◌, ◌↔◌, true, List, ◌∷◌, ◌++◌, length, nat_lt, IsTrue, refl, sym, ap, ◌∙◌, subst, arith, length-append}
+use Rattle.std.proofs.Common.{◌≡◌, ℕ, ◌+◌, ◌*◌, ◌/◌, ◌%◌, ◌^◌, ◌<◌, ◌≤◌, ◌↔◌, true, List, ◌++◌, length, nat_lt, IsTrue, refl, sym, ap, ◌∙◌, subst, arith, length-append}
 use Rattle.std.proofs.Math.Nat.{mod-eq_of_lt}
 use Rattle.std.proofs.lemmas.Bool.{and_parts, and_from, ltb-true, lt-ltb}
 use Rattle.narc_bits.specs.Octets.{IsOctets, number_of, big_endian}
@@ -16,6 +16,7 @@ use Rattle.narc_packet.specs.Options.{tcp_options_in, AreTcpOptions, IsTcpArea}
 use Rattle.narc_packet.specs.PacketView.{tcp_view}
 use Rattle.narc_packet.specs.Ranges.{IsTcpInRange}
 use Rattle.narc_packet.specs.Tcp.{tcp_pseudo_header}
+use Rattle.narc_packet.proofs.PseudoHeaders.{pseudo_even}
 use Rattle.narc_transport.specs.declared.as_tcp.TcpWithOffset.{TcpWithOffset}
 use Rattle.narc_transport.specs.declared.context.Ends.{Ends}
 use Rattle.narc_transport.specs.Context.{IsEnds}
@@ -24,9 +25,6 @@ use Rattle.narc_transport.specs.Tcp.{tcp_header_length, tcp_area_length, tcp_pse
 use Rattle.narc_transport.proofs.TcpSound.{IsTcpFrontInRange, front_back}
 use Rattle.narc_transport.proofs.TcpChosen.{offset_fits, offset_least}
 use Rattle.narc_transport.proofs.TcpRead.{IsSegmentRead, IsSummed, IsTcpRead, has_good_sum, front_octets, header_is}
-
-pub pseudo_even : (e : Ends) → IsEnds e → (n : ℕ) → length (tcp_pseudo_header e.src e.dst n) % 2 ≡ 0
-pseudo_even e ok n = omega (arith, length-append (e.src ++ e.dst) (0 ∷ 6 ∷ big_endian 2 n), length-append e.src e.dst, ok.0.0, ok.1.0)
 
 -- the fields that were read are those of the segment
 again : (c : Ends × ℕ) (w : RawTcp) (o : List ℕ) → IsSummed c w o → raw_tcp (tcp_of w) ≡ w
@@ -72,10 +70,10 @@ area_is_tcp l area are a =
 
 -- the sum that is judged is that of the definition
 sum_is : (c : Ends × ℕ) → IsEnds c.0 → (o : List ℕ) → is_good_total (sum_of_octets tcp_pseudo_of c o) ≡ true → IsGoodSum (tcp_pseudo_header c.0.src c.0.dst (length o) ++ o)
-sum_is c ok o h = sym (good_behind (tcp_pseudo_of c (length o)) o (pseudo_even c.0 ok (length o))) ∙ h
+sum_is c ok o h = sym (good_behind (tcp_pseudo_of c (length o)) o (pseudo_even c.0.src c.0.dst 6 (length o) ok)) ∙ h
 
 sum_back : (c : Ends × ℕ) → IsEnds c.0 → (o : List ℕ) → IsGoodSum (tcp_pseudo_header c.0.src c.0.dst (length o) ++ o) → is_good_total (sum_of_octets tcp_pseudo_of c o) ≡ true
-sum_back c ok o h = good_behind (tcp_pseudo_of c (length o)) o (pseudo_even c.0 ok (length o)) ∙ h
+sum_back c ok o h = good_behind (tcp_pseudo_of c (length o)) o (pseudo_even c.0.src c.0.dst 6 (length o) ok) ∙ h
 
 -- six bits, and four
 six_bits : (n : ℕ) → n % 64 < 64

@@ -13,11 +13,11 @@ use Rattle.narc_layout.proofs.SumReads.{sum_of_octets, good_behind}
 use Rattle.narc_packet.specs.Options.{bad_option}
 use Rattle.narc_packet.specs.Tcp.{tcp_pseudo_header}
 use Rattle.narc_packet.specs.Refusal.{options_row, tcp_rows}
+use Rattle.narc_packet.proofs.PseudoHeaders.{pseudo_even}
 use Rattle.narc_transport.specs.declared.context.Ends.{Ends}
 use Rattle.narc_transport.specs.Context.{IsEnds}
 use Rattle.narc_transport.specs.Tcp.{is_offset, tcp_area_length, tcp_pseudo_of}
 use Rattle.narc_transport.proofs.TcpChosen.{offset_fits, offset_least, offset_most}
-use Rattle.narc_transport.proofs.TcpOctets.{pseudo_even}
 use Rattle.narc_transport.proofs.TcpRead.{has_good_sum, summed_rows}
 
 -- an octet is the high half of a word
@@ -99,7 +99,7 @@ area_is d each r =
 
 sum_fails : (e : Ends) → IsEnds e → (d : List ℕ) → length d < 2 ^ 16 → not (has_good_sum (e, length d) d) ≡ not (is_good_sum (tcp_pseudo_header e.src e.dst (length d) ++ d))
 sum_fails e ok d small =
-    ap (λ t. not (t && is_good_total (sum_of_octets tcp_pseudo_of (e, length d) d))) (lt-ltb (length d) 65536 small) ∙ ap not (good_behind (tcp_pseudo_of (e, length d) (length d)) d (pseudo_even e ok (length d)))
+    ap (λ t. not (t && is_good_total (sum_of_octets tcp_pseudo_of (e, length d) d))) (lt-ltb (length d) 65536 small) ∙ ap not (good_behind (tcp_pseudo_of (e, length d) (length d)) d (pseudo_even e.src e.dst 6 (length d) ok))
 
 abbrev raw_sum : (e : Ends) → (start : ℕ) → List ℕ → List Row
 raw_sum e start d = row field.TCP_CHECKSUM (start + 16) (not (has_good_sum (e, length d) d)) ∷ []

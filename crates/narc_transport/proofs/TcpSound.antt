@@ -21,6 +21,7 @@ use Rattle.narc_list.specs.Until.{until}
 use Rattle.narc_sum.specs.Checked.{checked_tail}
 use Rattle.narc_packet.specs.Options.{tcp_options_in}
 use Rattle.narc_packet.specs.PacketView.{TcpView}
+use Rattle.narc_packet.proofs.PseudoHeaders.{pseudo_sum}
 use Rattle.narc_compose.specs.Both.{both}
 use Rattle.narc_options.proofs.AreaSound.{region_sound}
 use Rattle.narc_layout.proofs.Sizes.{pair_eq}
@@ -29,7 +30,6 @@ use Rattle.narc_transport.specs.declared.context.Ends.{Ends}
 use Rattle.narc_transport.specs.Context.{IsThere}
 use Rattle.narc_transport.specs.Tcp.{tcp_area_length, is_offset, tcp_pseudo_of, RawTcpFront, RawTcp, tcp_of, raw_tcp, SameTcp, tcp_ports, tcp_places, tcp_words, tcp_front, tcp_options, tcp_urgent, tcp_behind, tcp_segment, tcp_summed, tcp_format}
 use Rattle.narc_transport.specs.Laws.{tcp_front_laws, tcp_segment_laws, tcp_summed_laws}
-use Rattle.narc_transport.proofs.PseudoSums.{pseudo_sum}
 
 ends_sound : (both tcp_ports tcp_places).sound
 unfolding seq named word

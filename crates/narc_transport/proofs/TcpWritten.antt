@@ -30,13 +30,14 @@ use Rattle.narc_packet.proofs.SpelledOptions.{AreTcpOptions-ip, FitArea-tcp_opti
 use Rattle.narc_packet.proofs.TypedOptions.{IsOctets-spellings, IsOctets-tcp_option}
 use Rattle.narc_packet.specs.PacketView.{tcp_view}
 use Rattle.narc_packet.specs.Options.{TcpOptionView, tcp_option, tcp_options_in, tcp_area, IsTcpOption, AreIpOptions, AreTcpOptions}
+use Rattle.narc_packet.proofs.PseudoHeaders.{pseudo_even}
 use Rattle.narc_transport.specs.declared.as_tcp.TcpWithOffset.{TcpWithOffset}
 use Rattle.narc_transport.specs.declared.context.Ends.{Ends}
 use Rattle.narc_transport.specs.Context.{IsThere}
 use Rattle.narc_transport.specs.Written.{FitsTcp}
 use Rattle.narc_transport.specs.Tcp.{tcp_area_length, tcp_pseudo_of, RawTcp, tcp_of, raw_tcp, tcp_segment, tcp_format}
 use Rattle.narc_transport.proofs.TcpChosen.{AreFields, summed_fields, summed_admits, summed_short, tcp_filled, offset_fits, offset_least, offset_most}
-use Rattle.narc_transport.proofs.TcpOctets.{pseudo_even, tcp_again, read_back}
+use Rattle.narc_transport.proofs.TcpOctets.{tcp_again, read_back}
 
 -- the octets of options
 spelled_each : (os : List TcpOptionView) → AllByRecursion IsTcpOption os → IsOctets (flat_map tcp_option os)
@@ -222,7 +223,7 @@ tcp_written c ok s f shortest =
     let spelled = segment_spelled c w area (region_spelled n t.options.spelled (omega (arith, b.offset_is, f.most)) ∙ ap bits area_is) in
     let each = raw_each w area in_area f.in_range.payload in
     let room : 16 + 2 ≤ length (raw_octets w area 0) = omega arith in
-    let sum = checksum_is tcp_segment tcp_pseudo_of 16 c w (raw_octets w area) spelled each room (put_word w area) (pseudo_even e ok.0 (length (raw_octets w area 0))) in
+    let sum = checksum_is tcp_segment tcp_pseudo_of 16 c w (raw_octets w area) spelled each room (put_word w area) (pseudo_even e.src e.dst 6 (length (raw_octets w area 0)) ok.0) in
     let word : bits_of ≡ (20 + length area) / 4 * 4096 + t.reserved * 64 + t.flags = omega (arith, shortest) in
     let octets_are : (k : ℕ) → raw_octets w area k ≡ tcp_octets v k area = λ k.
     ap (λ m. ((big_endian 2 t.sport ++ big_endian 2 t.dport) ++ (big_endian 4 t.seq ++ big_endian 4 t.ack) ++ (big_endian 2 m ++ big_endian 2 t.window) ++ big_endian 2 k) ++ (big_endian 2 t.urgent ++ area ++ t.payload.now)) word in

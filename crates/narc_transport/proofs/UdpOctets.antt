@@ -1,5 +1,5 @@
 -- The octets that stand for a datagram are those of it.
-use Rattle.std.proofs.Common.{◌≡◌, ℕ, ◌+◌, ◌*◌, ◌%◌, ◌^◌, ◌<◌, ◌≤◌, ◌↔◌, ◌⊎◌, true, List, ◌∷◌, ◌++◌, length, take, nat_eq, IsTrue, refl, sym, ap, ◌∙◌, subst, arith, inl, inr, length-append}
+use Rattle.std.proofs.Common.{◌≡◌, ℕ, ◌+◌, ◌*◌, ◌%◌, ◌^◌, ◌<◌, ◌≤◌, ◌↔◌, ◌⊎◌, true, List, ◌++◌, length, take, nat_eq, IsTrue, refl, sym, ap, ◌∙◌, subst, arith, inl, inr, length-append}
 use Rattle.std.proofs.Math.Nat.{mod-eq_of_lt}
 use Rattle.std.proofs.lemmas.Bool.{eqb-true}
 use Rattle.std.proofs.lemmas.List.{take_at}
@@ -14,15 +14,13 @@ use Rattle.narc_packet.specs.declared.packet.Udp.{Udp}
 use Rattle.narc_packet.specs.PacketView.{UdpView, udp_view}
 use Rattle.narc_packet.specs.Ranges.{IsUdpInRange}
 use Rattle.narc_packet.specs.Udp.{IsUdp, udp_octets, udp_pseudo_header}
+use Rattle.narc_packet.proofs.PseudoHeaders.{pseudo_even}
 use Rattle.narc_transport.specs.declared.context.Ends.{Ends}
 use Rattle.narc_transport.specs.Context.{IsEnds}
 use Rattle.narc_transport.specs.Udp.{udp_pseudo_of, RawUdpFront, RawDatagram, RawUdp, udp_of, raw_udp}
 use Rattle.narc_transport.proofs.UdpSound.{length_least}
 use Rattle.narc_transport.proofs.UdpChosen.{length_fits}
 use Rattle.narc_transport.proofs.UdpRead.{IsDatagram, IsSummed, IsUdpAndSurplus, IsUdpRead, has_good_sum, front_octets, header_is}
-
-pub pseudo_even : (e : Ends) → IsEnds e → (n : ℕ) → length (udp_pseudo_header e.src e.dst n) % 2 ≡ 0
-pseudo_even e ok n = omega (arith, length-append (e.src ++ e.dst) (0 ∷ 17 ∷ big_endian 2 n), length-append e.src e.dst, ok.0.0, ok.1.0)
 
 -- what is known of the octets of a datagram, without any surplus
 record IsSplit (v : RawDatagram) (o word payload : List ℕ) : Type 0 where
@@ -49,10 +47,10 @@ split c v o each d =
 
 -- the sum that is judged is that of the definition
 sum_is : (c : Ends × ℕ) → IsEnds c.0 → (o : List ℕ) → is_good_total (sum_of_octets udp_pseudo_of c o) ≡ true → IsGoodSum (udp_pseudo_header c.0.src c.0.dst (length o) ++ o)
-sum_is c ok o h = sym (good_behind (udp_pseudo_of c (length o)) o (pseudo_even c.0 ok (length o))) ∙ h
+sum_is c ok o h = sym (good_behind (udp_pseudo_of c (length o)) o (pseudo_even c.0.src c.0.dst 17 (length o) ok)) ∙ h
 
 sum_back : (c : Ends × ℕ) → IsEnds c.0 → (o : List ℕ) → IsGoodSum (udp_pseudo_header c.0.src c.0.dst (length o) ++ o) → is_good_total (sum_of_octets udp_pseudo_of c o) ≡ true
-sum_back c ok o h = good_behind (udp_pseudo_of c (length o)) o (pseudo_even c.0 ok (length o)) ∙ h
+sum_back c ok o h = good_behind (udp_pseudo_of c (length o)) o (pseudo_even c.0.src c.0.dst 17 (length o) ok) ∙ h
 
 -- the word of the checksum in the octets
 no_sum_is : (v : RawUdpFront) (o word payload : List ℕ) → IsOctets o → length word ≡ 2 → o ≡ front_octets v ++ (word ++ payload) → has_no_sum 6 (bits o) ≡ nat_eq (number_of word) 0

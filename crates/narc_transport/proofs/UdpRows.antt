@@ -12,10 +12,10 @@ use Rattle.narc_layout.proofs.SameRows.{same_test, shorter-drop, not_true, or_as
 use Rattle.narc_layout.proofs.SumReads.{has_no_sum, sum_of_octets, word_in_hole, good_behind}
 use Rattle.narc_packet.specs.Udp.{udp_pseudo_header}
 use Rattle.narc_packet.specs.Refusal.{udp_rows}
+use Rattle.narc_packet.proofs.PseudoHeaders.{pseudo_even}
 use Rattle.narc_transport.specs.declared.context.Ends.{Ends}
 use Rattle.narc_transport.specs.Context.{IsEnds}
 use Rattle.narc_transport.specs.Udp.{is_udp_length, udp_pseudo_of}
-use Rattle.narc_transport.proofs.UdpOctets.{pseudo_even}
 use Rattle.narc_transport.proofs.UdpRead.{has_good_sum, datagram_size, payload_length, summed_rows}
 
 -- the length is below 8, or above the octets that are there
@@ -37,7 +37,7 @@ sum_fails e ok d each least most =
     let word : number_at o 6 2 ≡ number_at d 6 2 = ap (λ l. number_of (take 2 l)) cut ∙ ap number_of (take-take 2 (n - 6) (drop 6 d) (omega (arith, least))) in
     let none : has_no_sum 6 (bits o) ≡ nat_eq (number_at d 6 2) 0 = word_in_hole 6 o (IsOctets-take n d each) (omega (arith, size, least)) ∙ ap (λ k. nat_eq k 0) word in
     let sum : is_good_total (sum_of_octets udp_pseudo_of (e, length d) o) ≡ is_good_sum (udp_pseudo_header e.src e.dst n ++ o) =
-    good_behind (udp_pseudo_of (e, length d) (length o)) o (pseudo_even e ok (length o)) ∙ ap (λ k. is_good_sum (udp_pseudo_header e.src e.dst k ++ o)) size in
+    good_behind (udp_pseudo_of (e, length d) (length o)) o (pseudo_even e.src e.dst 17 (length o) ok) ∙ ap (λ k. is_good_sum (udp_pseudo_header e.src e.dst k ++ o)) size in
     ap (λ k. not (has_good_sum (e, length d) (take k d))) whole ∙ not_or (has_no_sum 6 (bits o)) (is_good_total (sum_of_octets udp_pseudo_of (e, length d) o)) ∙ ap (λ t. not t && not (is_good_total (sum_of_octets udp_pseudo_of (e, length d) o))) none ∙ ap (λ t. differs (number_at d 6 2) 0 && not t) sum
 
 -- where the length is right, so many octets are there

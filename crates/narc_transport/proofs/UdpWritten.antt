@@ -21,13 +21,14 @@ use Rattle.narc_layout.proofs.SumSpelled.{never_zero_is, word_is, checksum_is}
 use Rattle.narc_packet.specs.declared.packet.Udp.{Udp}
 use Rattle.narc_packet.specs.Udp.{udp_length, udp_octets, udp_pseudo_header, udp_checksum, canonical_udp}
 use Rattle.narc_packet.specs.PacketView.{UdpView, udp_view}
+use Rattle.narc_packet.proofs.PseudoHeaders.{pseudo_even}
 use Rattle.narc_transport.specs.declared.context.Ends.{Ends}
 use Rattle.narc_transport.specs.Context.{IsEnds, IsThere}
 use Rattle.narc_transport.specs.Written.{FitsUdp}
 use Rattle.narc_transport.specs.Udp.{udp_pseudo_of, raw_udp, udp_datagram, udp_format}
 use Rattle.narc_transport.proofs.UdpSound.{length_most, surplus_size}
 use Rattle.narc_transport.proofs.UdpChosen.{length_fits}
-use Rattle.narc_transport.proofs.UdpOctets.{pseudo_even, udp_again}
+use Rattle.narc_transport.proofs.UdpOctets.{udp_again}
 
 datagram_admits : (c : Ends × ℕ) → IsThere c → (u : Udp) → FitsUdp c.1 (udp_view u) → udp_datagram.admits c (raw_udp u).0
 unfolding seq gapped named tested word region measured all_octets
@@ -92,7 +93,7 @@ udp_written e ok u f =
     let each : IsOctets (octets 0) = IsOctets-append (big_endian 2 u.sport ++ big_endian 2 u.dport ++ big_endian 2 n ++ big_endian 2 0) u.payload.now (IsOctets-append (big_endian 2 u.sport ++ big_endian 2 u.dport) (big_endian 2 n ++ big_endian 2 0) (IsOctets-append (big_endian 2 u.sport) (big_endian 2 u.dport) (IsOctets-big_endian 2 u.sport) (IsOctets-big_endian 2 u.dport)) (IsOctets-append (big_endian 2 n) (big_endian 2 0) (IsOctets-big_endian 2 n) (IsOctets-big_endian 2 0))) f.in_range.payload in
     let spelled = datagram_spelled c u in
     let room : 6 + 2 ≤ length (octets 0) = omega arith in
-    let sum = checksum_is udp_datagram udp_pseudo_of 6 c w octets spelled each room (put_word v) (pseudo_even e ok (length (octets 0))) in
+    let sum = checksum_is udp_datagram udp_pseudo_of 6 c w octets spelled each room (put_word v) (pseudo_even e.src e.dst 17 (length (octets 0)) ok) in
     let same : never_zero (sealing udp_pseudo_of 6 udp_datagram c w) ≡ udp_checksum e.src e.dst v =
     ap never_zero sum ∙ never_zero_is (checksum (udp_pseudo_header e.src e.dst (length (octets 0)) ++ octets 0)) ∙ ap (λ k. let s = checksum (udp_pseudo_header e.src e.dst k ++ octets 0) in if nat_eq s 0 then 65535 else s) long in
     let none : n - n ≡ 0 = omega arith in
