@@ -1,24 +1,18 @@
 -- A frame of an IPv4 packet with an address assigned.
-use Rattle.std.proofs.Common.{◌≡◌, ℕ, ◌+◌, ◌*◌, ◌/◌, ◌%◌, ◌<◌, ◌≤◌, List, [], ◌∷◌, length, fold, get_or, refl, ap, ◌∙◌, subst, arith, lit≤}
+use Rattle.std.proofs.Common.{◌≡◌, ℕ, ◌+◌, ◌*◌, ◌/◌, ◌<◌, ◌≤◌, List, [], ◌∷◌, length, fold, get_or, refl, ap, ◌∙◌, subst, arith, lit≤}
 use Rattle.narc_bits.specs.Bits.{overlay}
 use Rattle.narc_bits.specs.Octets.{IsOctets, big_endian}
-use Rattle.narc_bits.proofs.Lists.{length-overlay, overlay-front}
+use Rattle.narc_bits.proofs.Lists.{length-overlay, overlay-front, overlay-behind}
 use Rattle.narc_bits.proofs.Octets.{IsOctets-big_endian}
+use Rattle.narc_bits.proofs.Overlays.{IsOctets-overlay}
+use Rattle.narc_bits.proofs.WordValues.{word_octets}
 use Rattle.narc_packet.specs.PacketView.{Ipv4View, IpBodyView, UdpBody, TcpBody, RawBody}
 use Rattle.narc_packet.specs.Ranges.{IsIp}
 use Rattle.narc_patch.specs.declared.change.Checksum.{Checksum}
 use Rattle.narc_patch.specs.Change.{changed, with_octets}
 use Rattle.narc_patch.specs.Patched.{words, header_sum}
-use Rattle.narc_patch.proofs.Places.{overlay-behind, IsOctets-overlay}
 use Rattle.narc_patch.proofs.HeaderSteps.{IsIpv4Frame}
 use Rattle.narc_patch.proofs.EndsSteps.{IsEndsChange, body_sums, udp_ends, tcp_ends, raw_ends}
-
--- the octets of a word
-pub word_octets : (high low : ℕ) → high < 256 → low < 256 → big_endian 2 (256 * high + low) ≡ high ∷ low ∷ []
-word_octets high low h l =
-    let first : (256 * high + low) / 256 % 256 ≡ high = omega (arith, h, l) in
-    let second : (256 * high + low) % 256 ≡ low = omega (arith, h, l) in
-    ap (λ n. n ∷ ((256 * high + low) % 256) ∷ []) first ∙ ap (λ n. high ∷ n ∷ []) second
 
 -- both words are written
 pub words_four : (l : List ℕ) → IsIp l → (frame : List ℕ) (at : ℕ) (sums : List Checksum) → fold changed frame (words at l sums)

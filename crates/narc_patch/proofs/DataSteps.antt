@@ -5,7 +5,7 @@ use Rattle.narc_bits.specs.InternetSum.{IsGoodSum}
 use Rattle.narc_bits.proofs.Octets.{IsOctets-front, IsOctets-back}
 use Rattle.narc_packet.specs.PacketView.{Ipv4View, IpBodyView}
 use Rattle.narc_packet.specs.Ipv4.{IsIpBody, MayHaveBody, ipv4_header, is_fragment, fragment_word, protocol_of}
-use Rattle.narc_patch.proofs.HeaderChanges.{header_size}
+use Rattle.narc_packet.proofs.Ipv4Fields.{header_size}
 use Rattle.narc_patch.proofs.HeaderSteps.{IsIpv4Frame, ethernet, ethernet_size}
 
 -- the header for this protocol

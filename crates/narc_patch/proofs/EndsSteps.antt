@@ -2,22 +2,24 @@
 use Rattle.std.proofs.Common.{◌≡◌, ℕ, ◌+◌, ◌*◌, ◌/◌, ◌≤◌, List, [], ◌∷◌, ◌++◌, length, refl, sym, ap, ◌∙◌, subst, arith, length-append}
 use Rattle.narc_bits.specs.Bits.{overlay}
 use Rattle.narc_bits.specs.Octets.{IsOctets, big_endian, number_at}
-use Rattle.narc_bits.proofs.Lists.{overlay-front}
+use Rattle.narc_bits.proofs.Lists.{overlay-front, overlay-behind}
+use Rattle.narc_bits.proofs.NumbersAt.{number-front, number-behind}
 use Rattle.narc_packet.specs.PacketView.{Ipv4View, IpBodyView, UdpView, TcpView, UdpBody, TcpBody, RawBody}
-use Rattle.narc_packet.specs.Ranges.{IsIp, IsUdpInRange, IsTcpInRange}
+use Rattle.narc_packet.specs.Ranges.{IsIp}
 use Rattle.narc_packet.specs.Udp.{IsUdp, udp_octets, udp_length}
 use Rattle.narc_packet.specs.Tcp.{IsTcp, tcp_octets}
 use Rattle.narc_packet.specs.Ipv4.{IsIpBody, IsIpv4InRange, ipv4_header, fragment_word, protocol_of}
+use Rattle.narc_packet.proofs.Ipv4Fields.{header_size}
 use Rattle.narc_mend.specs.declared.mend.Zero.{Zero}
 use Rattle.narc_mend.specs.declared.mend.Zero.TheVariants.{Plain, Udp}
 use Rattle.narc_patch.specs.declared.change.Checksum.{Checksum}
 use Rattle.narc_patch.specs.Change.{with_mended, with_octets}
 use Rattle.narc_patch.specs.Patched.{header_sum, udp_sums, tcp_sums}
-use Rattle.narc_patch.proofs.Places.{overlay-behind, number-front, number-behind, mended-between, before_is, after_is, with_mended_each, with_mended_size}
-use Rattle.narc_patch.proofs.HeaderChanges.{header_size}
+use Rattle.narc_patch.proofs.Places.{mended-between, before_is, after_is, with_mended_each, with_mended_size}
 use Rattle.narc_patch.proofs.HeaderSteps.{IsIpv4Frame, IsHeaderStep, header_step, ethernet, ethernet_size}
-use Rattle.narc_patch.proofs.UdpChanges.{IsUdpChange, udp_changed}
-use Rattle.narc_patch.proofs.TcpChanges.{IsTcpChange, tcp_changed}
+use Rattle.narc_patch.proofs.SummedChanges.{IsSummedChange}
+use Rattle.narc_patch.proofs.UdpChanges.{udp_changed}
+use Rattle.narc_patch.proofs.TcpChanges.{segment, tcp_changed}
 use Rattle.narc_patch.proofs.DataSteps.{front, front_layout, front_size, data_step}
 
 -- the checksums of the data
@@ -56,10 +58,7 @@ module _ (p : Ipv4View) (range : IsIpv4InRange p) (next_src next_dst : List ℕ)
       record {
         change = record {
           overlaid = λ sum la lc. overlay-behind (head p sum la lc) (p.src ++ p.dst) 12 k octets refl ∙ ap (λ l. head p sum la lc ++ l) c.overlaid;
-          each = c.each;
-          in_word = omega (arith, end);
-          inside = omega (arith, inside);
-          apart = λ e. absurd (omega (arith, e));
+          word = record { each = c.each; in_word = omega (arith, end); inside = omega (arith, inside); apart = λ e. absurd (omega (arith, e)) };
         };
         options = refl;
         body = refl;
@@ -134,28 +133,11 @@ module _ (p : Ipv4View) (range : IsIpv4InRange p) (next_src next_dst : List ℕ)
       overlay-front (p.src ++ p.dst ++ tail) l k octets (omega (arith, length-append (p.src ++ p.dst) tail, room))
       ∙ ap (λ m. m ++ l) (overlay-front (p.src ++ p.dst) tail k octets room ∙ ap (λ m. m ++ tail) c.overlaid)
 
-  pub udp_overlaid : (u : UdpView) → IsUdpInRange u → IsUdpChange p.src p.dst next_src next_dst u u k octets
-  udp_overlaid u u_range =
+  pub summed_change : (protocol size hole : ℕ) (whole : ℕ → List ℕ) → IsSummedChange protocol size hole p.src p.dst next_src next_dst whole whole k octets
+  summed_change protocol size hole whole =
       let inside = c.inside in
       record {
-        overlaid = λ sum. summed_overlaid (0 ∷ 17 ∷ big_endian 2 (udp_length u)) (udp_octets u sum);
-        as_long = refl;
-        in_range = u_range;
-        src_is = range.src;
-        dst_is = range.dst;
-        next_src_is = c.next_src_is;
-        next_dst_is = c.next_dst_is;
-        word = record { each = c.each; in_word = c.in_word; inside = omega (arith, inside); apart = λ e. absurd (omega (arith, inside, e)) };
-      }
-
-  pub tcp_overlaid : (t : TcpView) (area : List ℕ) → IsTcpInRange t → IsTcpChange p.src p.dst next_src next_dst t t area k octets
-  tcp_overlaid t area t_range =
-      let inside = c.inside in
-      record {
-        overlaid = λ sum n. summed_overlaid (0 ∷ 6 ∷ big_endian 2 n) (tcp_octets t sum area);
-        options = refl;
-        as_long = refl;
-        in_range = t_range;
+        overlaid = λ n sum. summed_overlaid (0 ∷ protocol ∷ big_endian 2 n) (whole sum);
         src_is = range.src;
         dst_is = range.dst;
         next_src_is = c.next_src_is;
@@ -218,7 +200,7 @@ module _ (mac_dst mac_src : List ℕ) (start whole : ℕ) (ip : Ipv4View) (next_
       let content = (s body f).content in
       let tail = 0 ∷ 17 ∷ big_endian 2 (udp_length u) in
       let own : Checksum = record { at = 6; zero = Udp } in
-      let changed = udp_changed ip.src ip.dst next_src next_dst u u k octets content content (udp_overlaid (p body f) f.in_range next_src next_dst k octets (to body f) u b.in_range) b b.layout b.octets in
+      let changed = udp_changed ip.src ip.dst next_src next_dst u u k octets content content (record { summed = summed_change (p body f) f.in_range next_src next_dst k octets (to body f) 17 8 6 (udp_octets u); as_long = refl; in_range = b.in_range }) b b.layout b.octets in
       let is : IsUdp next_src next_dst u (with_mended (old_word body f) (new_word body f) content own) =
       subst (λ n. IsUdp next_src next_dst u (with_mended n (new_word body f) content own)) (old_is body f tail (udp_octets u b.sum))
       (subst (λ n. IsUdp next_src next_dst u (with_mended (number_at (ip.src ++ ip.dst ++ tail ++ udp_octets u b.sum) (k / 2 * 2) 2) n content own)) (new_is body f tail (udp_octets u b.sum)) changed)
@@ -233,7 +215,7 @@ module _ (mac_dst mac_src : List ℕ) (start whole : ℕ) (ip : Ipv4View) (next_
       let content = (s body f).content in
       let tail = 0 ∷ 6 ∷ big_endian 2 (length content) in
       let own : Checksum = record { at = 16; zero = Plain } in
-      let changed = tcp_changed ip.src ip.dst next_src next_dst t t k octets content content b (tcp_overlaid (p body f) f.in_range next_src next_dst k octets (to body f) t b.area b.in_range) b.layout b.octets in
+      let changed = tcp_changed ip.src ip.dst next_src next_dst t t k octets content content b (record { summed = summed_change (p body f) f.in_range next_src next_dst k octets (to body f) 6 20 16 (segment t b.area); options = refl; as_long = refl; in_range = b.in_range }) b.layout b.octets in
       let is : IsTcp next_src next_dst t (with_mended (old_word body f) (new_word body f) content own) =
       subst (λ n. IsTcp next_src next_dst t (with_mended n (new_word body f) content own)) (old_is body f tail (tcp_octets t b.sum b.area))
       (subst (λ n. IsTcp next_src next_dst t (with_mended (number_at (ip.src ++ ip.dst ++ tail ++ tcp_octets t b.sum b.area) (k / 2 * 2) 2) n content own)) (new_is body f tail (tcp_octets t b.sum b.area)) changed)

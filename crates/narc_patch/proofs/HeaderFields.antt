@@ -1,28 +1,25 @@
 -- A frame of an IPv4 packet with one field of its header assigned.
-use Rattle.std.proofs.Common.{◌≡◌, ℕ, ◌+◌, ◌*◌, ◌/◌, ◌%◌, ◌<◌, ◌≢◌, ◌^◌, Bool, true, false, List, [], ◌∷◌, ◌++◌, length, if◌then◌else◌, refl, sym, ap, ◌∙◌, subst, arith, lit<, lit≤}
+use Rattle.std.proofs.Common.{◌≡◌, ℕ, ◌+◌, ◌*◌, ◌/◌, ◌%◌, ◌<◌, ◌≢◌, ◌^◌, Bool, true, false, List, [], ◌∷◌, ◌++◌, length, refl, sym, ap, ◌∙◌, subst, arith, lit<, lit≤}
 use Rattle.std.proofs.Math.Nat.{mod-eq_of_lt}
 use Rattle.narc_bits.specs.Bits.{overlay}
 use Rattle.narc_bits.specs.Octets.{big_endian, number_at}
 use Rattle.narc_bits.proofs.Octets.{IsOctets-big_endian}
+use Rattle.narc_bits.proofs.NumbersAt.{number-between}
 use Rattle.narc_packet.specs.PacketView.{Ipv4View}
 use Rattle.narc_packet.specs.Ipv4.{IsIpv4InRange, ipv4_header, fragment_word, protocol_of}
+use Rattle.narc_packet.proofs.Ipv4Fields.{header_size, fragment_bits}
 use Rattle.narc_patch.specs.Change.{changed, with_octets}
 use Rattle.narc_patch.specs.Patched.{whole, part, flag_number, header_sum}
-use Rattle.narc_patch.proofs.Places.{number-between}
-use Rattle.narc_patch.proofs.HeaderChanges.{IsHeaderChange, header_size}
+use Rattle.narc_patch.proofs.HeaderChanges.{IsHeaderChange}
 use Rattle.narc_patch.proofs.HeaderSteps.{IsIpv4Frame, header_step, ethernet, ethernet_size}
-
--- the word of flags and offset
-abbrev fragment_of : (df mf : Bool) (offset : ℕ) → ℕ
-fragment_of df mf offset = (if df then 16384 else 0) + (if mf then 8192 else 0) + offset
 
 -- the octet of the flags, with `don't fragment` as it is assigned
 abbrev flag_octet : (old : ℕ) → (df : Bool) → ℕ
 flag_octet old df = (old / 2 ^ 7 * 2 ^ 1 + flag_number df) * 2 ^ 6 + old % 2 ^ 6
 
 record IsFlagged (df new mf : Bool) (offset : ℕ) : Type 0 where
-  high : flag_octet (fragment_of df mf offset / 256 % 256) new % 256 ≡ fragment_of new mf offset / 256 % 256
-  low : fragment_of df mf offset % 256 ≡ fragment_of new mf offset % 256
+  high : flag_octet (fragment_bits df mf offset / 256 % 256) new % 256 ≡ fragment_bits new mf offset / 256 % 256
+  low : fragment_bits df mf offset % 256 ≡ fragment_bits new mf offset % 256
 
 flagged : (df new mf : Bool) (offset : ℕ) → offset < 8192 → IsFlagged df new mf offset
 flagged true true true offset h = record { high = omega (arith, h); low = omega (arith, h) }
@@ -62,7 +59,7 @@ module _ (mac_dst mac_src src dst : List ℕ) (start size : ℕ) (p : Ipv4View) 
       let same : v % 256 ≡ v = mod-eq_of_lt small in
       let range = f.in_range in
       let in_range : IsIpv4InRange q = record { tos = omega arith; id = range.id; offset = range.offset; ttl = range.ttl; src = range.src; dst = range.dst } in
-      let change : IsHeaderChange p q 1 (big_endian 1 v) = record { overlaid = tos_overlaid v; each = IsOctets-big_endian 1 v; in_word = lit≤ tt; inside = lit≤ tt; apart = apart 0 (lit< tt) } in
+      let change : IsHeaderChange p q 1 (big_endian 1 v) = record { overlaid = tos_overlaid v; word = record { each = IsOctets-big_endian 1 v; in_word = lit≤ tt; inside = lit≤ tt; apart = apart 0 (lit< tt) } } in
       subst (λ n. Frame (record p { tos = n }) (changed frame (whole 15 1 v (header_sum ∷ [])))) same
       (header_step mac_dst mac_src src dst start size p q 1 (big_endian 1 v) frame (record { change = change; options = refl; body = refl; fragment = refl; in_range = in_range }) f)
 
@@ -71,7 +68,7 @@ module _ (mac_dst mac_src src dst : List ℕ) (start size : ℕ) (p : Ipv4View) 
       let q : Ipv4View = record p { id = v } in
       let range = f.in_range in
       let in_range : IsIpv4InRange q = record { tos = range.tos; id = small; offset = range.offset; ttl = range.ttl; src = range.src; dst = range.dst } in
-      let change : IsHeaderChange p q 4 (big_endian 2 v) = record { overlaid = id_overlaid v; each = IsOctets-big_endian 2 v; in_word = lit≤ tt; inside = lit≤ tt; apart = apart 4 (lit< tt) } in
+      let change : IsHeaderChange p q 4 (big_endian 2 v) = record { overlaid = id_overlaid v; word = record { each = IsOctets-big_endian 2 v; in_word = lit≤ tt; inside = lit≤ tt; apart = apart 4 (lit< tt) } } in
       header_step mac_dst mac_src src dst start size p q 4 (big_endian 2 v) frame (record { change = change; options = refl; body = refl; fragment = refl; in_range = in_range }) f
 
   pub ttl_step : (v : ℕ) → v < 256 → Frame (record p { ttl = v }) (changed frame (whole 22 1 v (header_sum ∷ [])))
@@ -80,7 +77,7 @@ module _ (mac_dst mac_src src dst : List ℕ) (start size : ℕ) (p : Ipv4View) 
       let same : v % 256 ≡ v = mod-eq_of_lt small in
       let range = f.in_range in
       let in_range : IsIpv4InRange q = record { tos = range.tos; id = range.id; offset = range.offset; ttl = omega arith; src = range.src; dst = range.dst } in
-      let change : IsHeaderChange p q 8 (big_endian 1 v) = record { overlaid = ttl_overlaid v; each = IsOctets-big_endian 1 v; in_word = lit≤ tt; inside = lit≤ tt; apart = apart 8 (lit< tt) } in
+      let change : IsHeaderChange p q 8 (big_endian 1 v) = record { overlaid = ttl_overlaid v; word = record { each = IsOctets-big_endian 1 v; in_word = lit≤ tt; inside = lit≤ tt; apart = apart 8 (lit< tt) } } in
       subst (λ n. Frame (record p { ttl = n }) (changed frame (whole 22 1 v (header_sum ∷ [])))) same
       (header_step mac_dst mac_src src dst start size p q 8 (big_endian 1 v) frame (record { change = change; options = refl; body = refl; fragment = refl; in_range = in_range }) f)
 
@@ -97,7 +94,7 @@ module _ (mac_dst mac_src src dst : List ℕ) (start size : ℕ) (p : Ipv4View) 
   unfolding overlay
   df_overlaid v sum la lc =
       let is = flagged p.df v p.mf p.offset f.in_range.offset in
-      ap (λ n. with_fragment sum la lc n (fragment_word p % 256)) is.high ∙ ap (λ n. with_fragment sum la lc (fragment_of v p.mf p.offset / 256 % 256) n) is.low
+      ap (λ n. with_fragment sum la lc n (fragment_word p % 256)) is.high ∙ ap (λ n. with_fragment sum la lc (fragment_bits v p.mf p.offset / 256 % 256) n) is.low
 
   octet_is : number_at frame 20 1 ≡ old_octet
   octet_is =
@@ -112,6 +109,6 @@ module _ (mac_dst mac_src src dst : List ℕ) (start size : ℕ) (p : Ipv4View) 
       let octets = big_endian 1 (flag_octet old_octet v) in
       let range = f.in_range in
       let in_range : IsIpv4InRange q = record { tos = range.tos; id = range.id; offset = range.offset; ttl = range.ttl; src = range.src; dst = range.dst } in
-      let change : IsHeaderChange p q 6 octets = record { overlaid = df_overlaid v; each = IsOctets-big_endian 1 (flag_octet old_octet v); in_word = lit≤ tt; inside = lit≤ tt; apart = apart 6 (lit< tt) } in
+      let change : IsHeaderChange p q 6 octets = record { overlaid = df_overlaid v; word = record { each = IsOctets-big_endian 1 (flag_octet old_octet v); in_word = lit≤ tt; inside = lit≤ tt; apart = apart 6 (lit< tt) } } in
       subst (λ n. Frame q (with_octets frame 20 (big_endian 1 (flag_octet n v)) (header_sum ∷ []))) (sym octet_is)
       (header_step mac_dst mac_src src dst start size p q 6 octets frame (record { change = change; options = refl; body = refl; fragment = refl; in_range = in_range }) f)

@@ -9,11 +9,12 @@ use Rattle.narc_packet.specs.Ranges.{IsMac}
 use Rattle.narc_packet.specs.Options.{IsIpArea}
 use Rattle.narc_packet.specs.Ipv4.{IsIpBody, IsIpv4InRange, MayHaveBody, ipv4_header, is_fragment}
 use Rattle.narc_packet.specs.Frame.{ipv4_type}
+use Rattle.narc_packet.proofs.Ipv4Fields.{header_size}
 use Rattle.narc_mend.specs.declared.mend.Zero.TheVariants.{Plain}
 use Rattle.narc_patch.specs.Change.{with_octets}
 use Rattle.narc_patch.specs.Patched.{header_sum}
 use Rattle.narc_patch.proofs.Places.{octets_between, with_octets_each, with_octets_size}
-use Rattle.narc_patch.proofs.HeaderChanges.{IsHeaderChange, header_size, next_sum, header_changed, header_good}
+use Rattle.narc_patch.proofs.HeaderChanges.{IsHeaderChange, next_sum, header_changed, header_good}
 use Rattle.narc_mend.proofs.MendedSums.{mended_small}
 
 abbrev pub ethernet : (dst src : List ℕ) → List ℕ
@@ -67,8 +68,8 @@ module _ (mac_dst mac_src src dst : List ℕ) (start whole : ℕ) (p q : Ipv4Vie
   new_layout : with_octets frame (14 + k) octets (header_sum ∷ []) ≡ front ++ (ipv4_header q sum (length f.area) (length f.content) ++ back)
   new_layout =
       let size = header_size p f.in_range.src f.in_range.dst (length f.area) (length f.content) f.sum in
-      let end = c.change.in_word in
-      let inside = c.change.inside in
+      let end = c.change.word.in_word in
+      let inside = c.change.word.inside in
       ap (λ l. with_octets l (14 + k) octets (header_sum ∷ [])) f.layout
       ∙ octets_between front old back 14 (ethernet_size mac_dst mac_src f.mac_dst_is f.mac_src_is) refl k octets (omega (arith, size, end, inside)) (omega (arith, size, inside)) 10 Plain (omega (arith, size))
       ∙ ap (λ l. front ++ (l ++ back)) (header_changed p q f.in_range.src f.in_range.dst c.in_range.src c.in_range.dst k octets c.change f.sum (length f.area) (length f.content) f.sum_range)
@@ -80,8 +81,8 @@ module _ (mac_dst mac_src src dst : List ℕ) (start whole : ℕ) (p q : Ipv4Vie
   new_size =
       let ours = ethernet_size mac_dst mac_src f.mac_dst_is f.mac_src_is in
       let size = header_size p f.in_range.src f.in_range.dst (length f.area) (length f.content) f.sum in
-      let end = c.change.in_word in
-      let inside = c.change.inside in
+      let end = c.change.word.in_word in
+      let inside = c.change.word.inside in
       let room : 34 ≤ length frame = omega (arith, ap length f.layout, length-append front (old ++ back), length-append old back, ours, size) in
       with_octets_size frame (14 + k) octets header_sum (omega (arith, room, end, inside)) (omega (arith, room))
 
@@ -101,7 +102,7 @@ module _ (mac_dst mac_src src dst : List ℕ) (start whole : ℕ) (p q : Ipv4Vie
     sum_range = mended_small _ _ _ Plain;
     mac_dst_is = f.mac_dst_is;
     mac_src_is = f.mac_src_is;
-    octets = with_octets_each frame (14 + k) octets (header_sum ∷ []) f.octets c.change.each;
+    octets = with_octets_each frame (14 + k) octets (header_sum ∷ []) f.octets c.change.word.each;
     starts = f.starts;
     as_long = new_size ∙ f.as_long;
   }

@@ -1,17 +1,16 @@
 -- A frame of an IPv4 packet, in its parts and as a whole.
-use Rattle.std.proofs.Common.{◌≡◌, ℕ, ◌+◌, ◌/◌, ◌%◌, ◌<◌, ◌≤◌, ◌^◌, ◌||◌, not, Bool, true, false, List, ◌++◌, length, take, drop, nat_eq, IsTrue, if◌then◌else◌, refl, sym, ap, ◌∙◌, subst, append_assoc, arith, length-append}
+use Rattle.std.proofs.Common.{◌≡◌, ℕ, ◌+◌, ◌||◌, not, Bool, true, false, List, ◌++◌, length, take, drop, nat_eq, IsTrue, if◌then◌else◌, refl, sym, ap, ◌∙◌, subst, append_assoc, arith, length-append}
 use Rattle.std.proofs.lemmas.List.{take_at, drop_at}
 use Rattle.narc_bits.specs.Octets.{number_at}
 use Rattle.narc_bits.specs.InternetSum.{IsGoodSum}
-use Rattle.narc_bits.proofs.NetworkOrder.{number_of-big_endian}
 use Rattle.narc_packet.specs.PacketView.{Ipv4Body, Ipv4View, IpBodyView, UdpBody, TcpBody, RawBody}
-use Rattle.narc_packet.specs.Ipv4.{IsIpv4, IsIpv4InRange, ipv4_header, fragment_word, is_fragment, protocol_of, MayHaveBody}
+use Rattle.narc_packet.specs.Ipv4.{IsIpv4, ipv4_header, is_fragment, protocol_of, MayHaveBody}
 use Rattle.narc_packet.specs.Frame.{IsFrame}
 use Rattle.narc_packet.specs.Refusal.{header_length, is_fragment_in}
+use Rattle.narc_packet.proofs.Ipv4Fields.{header_size, length_in, protocol_in, fragment_in}
 use Rattle.narc_patch.specs.declared.headers.Headers.{Headers}
 use Rattle.narc_patch.specs.declared.headers.Headers.TheVariants.{Ipv4, Udp, Tcp}
 use Rattle.narc_patch.specs.Patched.{headers_of_ipv4}
-use Rattle.narc_patch.proofs.HeaderChanges.{header_size}
 use Rattle.narc_patch.proofs.HeaderSteps.{IsIpv4Frame, ethernet, ethernet_size}
 
 -- as a whole
@@ -48,45 +47,6 @@ ipv4_frame mac_dst mac_src start size p frame f =
       octets = f.octets;
     }
 
--- the word of flags and offset
-record IsWordOf (df mf : Bool) (offset word : ℕ) : Type 0 where
-  small : word < 2 ^ 16
-  more : nat_eq (word / 8192 % 2) 1 ≡ mf
-  place : word % 8192 ≡ offset
-
-is_one : (n : ℕ) → n ≡ 1 → nat_eq n 1 ≡ true
-is_one n e = ap (λ m. nat_eq m 1) e
-
-is_zero : (n : ℕ) → n ≡ 0 → nat_eq n 1 ≡ false
-is_zero n e = ap (λ m. nat_eq m 1) e
-
-abbrev fragment_of : (df mf : Bool) (offset : ℕ) → ℕ
-fragment_of df mf offset = (if df then 16384 else 0) + (if mf then 8192 else 0) + offset
-
-fragment_is : (df mf : Bool) (offset : ℕ) → offset < 8192 → IsWordOf df mf offset (fragment_of df mf offset)
-fragment_is true true offset h = record { small = omega (arith, h); more = is_one _ (omega (arith, h)); place = omega (arith, h) }
-fragment_is true false offset h = record { small = omega (arith, h); more = is_zero _ (omega (arith, h)); place = omega (arith, h) }
-fragment_is false true offset h = record { small = omega (arith, h); more = is_one _ (omega (arith, h)); place = omega (arith, h) }
-fragment_is false false offset h = record { small = omega (arith, h); more = is_zero _ (omega (arith, h)); place = omega (arith, h) }
-
--- the fields that a header has, whatever is behind it
-module _ (p : Ipv4View) (range : IsIpv4InRange p) (sum la lc : ℕ) (later : List ℕ) where
-  abbrev header_and : List ℕ
-  header_and = ipv4_header p sum la lc ++ later
-
-  length_in : la % 4 ≡ 0 → la ≤ 40 → header_length header_and ≡ 20 + la
-  length_in words bound = omega (arith, words, bound)
-
-  protocol_in : number_at header_and 9 1 ≡ protocol_of p.body
-  protocol_in = omega arith
-
-  fragment_in : is_fragment_in header_and ≡ is_fragment p.mf p.offset
-  fragment_in =
-      let w = fragment_word p in
-      let is = fragment_is p.df p.mf p.offset range.offset in
-      let word_is : number_at header_and 6 2 ≡ w = number_of-big_endian 2 w is.small in
-      ap (λ n. is_fragment (nat_eq (n / 8192 % 2) 1) (n % 8192)) word_is ∙ ap (λ b. is_fragment b (w % 8192)) is.more ∙ ap (is_fragment p.mf) is.place
-
 module _ (mac_dst mac_src : List ℕ) (p : Ipv4View) (frame : List ℕ) (f : IsFrame (record { dst = mac_dst; src = mac_src; body = Ipv4Body p }) frame) where
   abbrev is : IsIpv4 p f.body.0
   is = f.body.2
@@ -111,7 +71,7 @@ module _ (mac_dst mac_src : List ℕ) (p : Ipv4View) (frame : List ℕ) (f : IsF
   start = 14 + header_length (drop 14 frame)
 
   start_is : 34 + length is.area ≡ start
-  start_is = omega (arith, ap header_length behind_is, length_in p is.in_range is.sum (length is.area) (length is.content) rest is.options.whole_words is.options.bound)
+  start_is = omega (arith, ap header_length behind_is, length_in p is.sum (length is.area) (length is.content) rest is.options.whole_words is.options.bound)
 
   -- in its parts
   pub ipv4_parts : IsIpv4Frame mac_dst mac_src p.src p.dst start (length frame) p frame
@@ -167,6 +127,6 @@ module _ (mac_dst mac_src : List ℕ) (p : Ipv4View) (frame : List ℕ) (f : IsF
 
   pub headers_are : headers_of_ipv4 (drop 14 frame) ≡ headers_by p.body
   headers_are =
-      ap (λ t. chosen t (number_at (drop 14 frame) 9 1)) (ap is_fragment_in behind_is ∙ fragment_in p is.in_range is.sum (length is.area) (length is.content) rest)
-      ∙ ap (chosen (is_fragment p.mf p.offset)) (ap (λ x. number_at x 9 1) behind_is ∙ protocol_in p is.in_range is.sum (length is.area) (length is.content) rest)
+      ap (λ t. chosen t (number_at (drop 14 frame) 9 1)) (ap is_fragment_in behind_is ∙ fragment_in p is.sum (length is.area) (length is.content) rest is.in_range.offset)
+      ∙ ap (chosen (is_fragment p.mf p.offset)) (ap (λ x. number_at x 9 1) behind_is ∙ protocol_in p is.sum (length is.area) (length is.content) rest)
       ∙ by_body (is_fragment p.mf p.offset) p.body is.may_have_body

@@ -1,8 +1,8 @@
 mod Places
 mod Mending
+mod SummedChanges
 mod HeaderChanges
 mod HeaderSteps
-mod SummedChanges
 mod UdpChanges
 mod TcpChanges
 mod DataSteps
@@ -10,7 +10,6 @@ mod EndsSteps
 mod PortSteps
 mod HeaderFields
 mod AddressSteps
-mod LongNumbers
 mod TransportFields
 mod PatchedIpv4
 mod Ipv4Parts

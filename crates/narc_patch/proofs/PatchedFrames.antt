@@ -5,6 +5,7 @@ use Rattle.std.proofs.lemmas.Bool.{ne_eqb}
 use Rattle.std.proofs.lemmas.List.{drop-drop}
 use Rattle.narc_bits.specs.Octets.{big_endian, number_at}
 use Rattle.narc_bits.proofs.NetworkOrder.{number_of-big_endian}
+use Rattle.narc_bits.proofs.NumbersAt.{number-front, number-behind}
 use Rattle.narc_packet.specs.PacketView.{PacketView, EthBodyView, ArpBody, Ipv4Body, OtherBody, Ipv4View, IpBodyView, UdpView, TcpView, UdpBody, TcpBody, RawBody}
 use Rattle.narc_packet.specs.Frame.{IsFrame, IsEthBody, ether_type_of, arp_type, ipv4_type}
 use Rattle.narc_packet.specs.Refusal.{header_length}
@@ -15,7 +16,6 @@ use Rattle.narc_edit.specs.Edited.{edited, edited_eth_body, edited_ipv4}
 use Rattle.narc_patch.specs.Change.{changed}
 use Rattle.narc_patch.specs.Patched.{header_sum, eth_changes, ipv4_changes, udp_changes, tcp_changes, udp_sums, tcp_sums, headers_of_ipv4, headers_for, headers_in, header_changes, patched}
 use Rattle.narc_patch.specs.Laws.{PatchedIsEdited}
-use Rattle.narc_patch.proofs.Places.{number-front, number-behind}
 use Rattle.narc_patch.proofs.HeaderSteps.{IsIpv4Frame}
 use Rattle.narc_patch.proofs.PatchedIpv4.{in_turn, edited_header, header_patched, udp_patched, tcp_patched}
 use Rattle.narc_patch.proofs.Ipv4Parts.{ipv4_frame, ipv4_parts, headers_are}

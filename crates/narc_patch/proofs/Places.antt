@@ -1,90 +1,24 @@
 -- Changes of octets that stand between others.
-use Rattle.std.proofs.Common.{◌≡◌, ℕ, ◌+◌, ◌*◌, ◌-◌, ◌/◌, ◌%◌, ◌<◌, ◌≤◌, Bool, true, false, List, [], ◌∷◌, ◌++◌, length, take, drop, if◌then◌else◌, fold, refl, sym, ap, ◌∙◌, append_assoc, arith, length-append, length-drop, length-take}
-use Rattle.std.proofs.lemmas.List.{drop-drop, length-take-le, take-append-le, drop-append-le, take-take}
+use Rattle.std.proofs.Common.{◌≡◌, ℕ, ◌+◌, ◌*◌, ◌-◌, ◌/◌, ◌%◌, ◌≤◌, Bool, true, false, List, [], ◌∷◌, ◌++◌, length, if◌then◌else◌, fold, refl, ap, ◌∙◌, arith}
 use Rattle.narc_bits.specs.Bits.{overlay}
-use Rattle.narc_bits.specs.Octets.{IsOctets, big_endian, number_of, number_at}
-use Rattle.narc_bits.proofs.Lists.{length-overlay, take-append-add, drop-append-add, overlay-front}
-use Rattle.narc_bits.proofs.Octets.{IsOctets-append, IsOctets-take, IsOctets-drop, IsOctets-big_endian}
+use Rattle.narc_bits.specs.Octets.{IsOctets, big_endian, number_at}
+use Rattle.narc_bits.proofs.Lists.{length-overlay}
+use Rattle.narc_bits.proofs.Octets.{IsOctets-big_endian}
+use Rattle.narc_bits.proofs.NumbersAt.{number-between}
+use Rattle.narc_bits.proofs.Overlays.{overlay-between, IsOctets-overlay}
 use Rattle.narc_mend.specs.declared.mend.Zero.{Zero}
-use Rattle.narc_mend.specs.Mended.{mended, with_word, DifferInWord}
+use Rattle.narc_mend.specs.Mended.{mended, with_word}
 use Rattle.narc_patch.specs.declared.change.Checksum.{Checksum}
 use Rattle.narc_patch.specs.Change.{is_absent, with_mended, with_octets}
 
--- behind a front
-pub overlay-behind : (front l : List ℕ) (n k : ℕ) (s : List ℕ) → length front ≡ n → overlay (front ++ l) (n + k) s ≡ front ++ overlay l k s
-unfolding overlay
-overlay-behind front l n k s size =
-    let end : (length front + k) + length s ≡ length front + (k + length s) = omega arith in
-    ap (λ m. overlay (front ++ l) (m + k) s) (sym size)
-    ∙ ap (λ a. a ++ (s ++ drop ((length front + k) + length s) (front ++ l))) (take-append-add front l k)
-    ∙ ap (λ m. (front ++ take k l) ++ (s ++ drop m (front ++ l))) end
-    ∙ ap (λ a. (front ++ take k l) ++ (s ++ a)) (drop-append-add front l (k + length s))
-    ∙ append_assoc front (take k l) (s ++ drop (k + length s) l)
-
--- what is behind stays
-pub drop-overlay : (l : List ℕ) (k : ℕ) (s : List ℕ) (i : ℕ) → k + length s ≤ i → k ≤ length l → drop i (overlay l k s) ≡ drop i l
-unfolding overlay
-drop-overlay l k s i end inside =
-    let front = take k l ++ s in
-    let tail = drop (k + length s) l in
-    let more = i - (k + length s) in
-    let at : i ≡ length front + more = omega (arith, end, length-append (take k l) s, length-take-le k l inside) in
-    let whole : (k + length s) + more ≡ i = omega (arith, end) in
-    ap (drop i) (sym (append_assoc (take k l) s tail)) ∙ ap (λ m. drop m (front ++ tail)) at ∙ drop-append-add front tail more ∙ drop-drop more (k + length s) l ∙ ap (λ m. drop m l) whole
-
--- what is overlaid differs in the word that has it
-pub overlay-differs : (l : List ℕ) (word k : ℕ) (s : List ℕ) → word ≤ k → k + length s ≤ word + 2 → word + 2 ≤ length l → DifferInWord l (overlay l k s) word
-unfolding overlay
-overlay-differs l word k s low high inside = record {
-  size = length-overlay l k s (omega (arith, high, inside));
-  front = take-append-le word (take k l) (s ++ drop (k + length s) l) (omega (arith, length-take-le k l (omega arith), low)) ∙ take-take word k l low;
-  back = drop-overlay l k s (word + 2) high (omega (arith, high, inside));
-}
-
-pub IsOctets-overlay : (l : List ℕ) (k : ℕ) (s : List ℕ) → IsOctets l → IsOctets s → IsOctets (overlay l k s)
-unfolding overlay
-IsOctets-overlay l k s p q = IsOctets-append (take k l) (s ++ drop (k + length s) l) (IsOctets-take k l p) (IsOctets-append s (drop (k + length s) l) q (IsOctets-drop (k + length s) l p))
-
-number_small : (l : List ℕ) → IsOctets l → length l ≤ 2 → number_of l < 65536
-number_small [] each h = omega arith
-number_small (a ∷ []) each h = omega (arith, each.0)
-number_small (a ∷ b ∷ []) each h = omega (arith, each.0, each.1.0)
-number_small (a ∷ b ∷ c ∷ l) each h = absurd (omega arith)
-
-pub number_at_small : (l : List ℕ) (k : ℕ) → IsOctets l → number_at l k 2 < 65536
-number_at_small l k each =
-    number_small (take ((k + 2) - k) (drop k l)) (IsOctets-take ((k + 2) - k) (drop k l) (IsOctets-drop k l each)) (omega (arith, length-take ((k + 2) - k) (drop k l)))
-
--- a number in a front
-pub number-front : (front back : List ℕ) (k count : ℕ) → k + count ≤ length front → number_at (front ++ back) k count ≡ number_at front k count
-number-front front back k count inside =
-    ap (λ l. number_of (take ((k + count) - k) l)) (drop-append-le k front back (omega arith))
-    ∙ ap number_of (take-append-le ((k + count) - k) (drop k front) back (omega (arith, length-drop k front, inside)))
-
--- a number behind a front
-pub number-behind : (front l : List ℕ) (n k count : ℕ) → length front ≡ n → number_at (front ++ l) (n + k) count ≡ number_at l k count
-number-behind front l n k count size =
-    let there : ((n + k) + count) - (n + k) ≡ count = omega arith in
-    let here : (k + count) - k ≡ count = omega arith in
-    ap (λ m. number_of (take m (drop (n + k) (front ++ l)))) there
-    ∙ ap (λ m. number_of (take count (drop (m + k) (front ++ l)))) (sym size)
-    ∙ ap (λ r. number_of (take count r)) (drop-append-add front l k)
-    ∙ ap (λ m. number_of (take m (drop k l))) (sym here)
-
 -- a part between others
 module _ (front part back : List ℕ) (n : ℕ) (size : length front ≡ n) where
-  pub overlay-between : (k : ℕ) (s : List ℕ) → k + length s ≤ length part → overlay (front ++ (part ++ back)) (n + k) s ≡ front ++ (overlay part k s ++ back)
-  overlay-between k s inside = overlay-behind front (part ++ back) n k s size ∙ ap (λ l. front ++ l) (overlay-front part back k s inside)
-
-  pub number-between : (k count : ℕ) → k + count ≤ length part → number_at (front ++ (part ++ back)) (n + k) count ≡ number_at part k count
-  number-between k count inside = number-behind front (part ++ back) n k count size ∙ number-front part back k count inside
-
   pub mended-between : (before after k : ℕ) (zero : Zero) → k + 2 ≤ length part
       → with_mended before after (front ++ (part ++ back)) (record { at = n + k; zero = zero }) ≡ front ++ (with_mended before after part (record { at = k; zero = zero }) ++ back)
   mended-between before after k zero inside =
       let sum = number_at part k 2 in
-      ap (λ s. if is_absent zero s then front ++ (part ++ back) else with_word (front ++ (part ++ back)) (n + k) (mended s before after zero)) (number-between k 2 inside)
-      ∙ ap (λ l. if is_absent zero sum then front ++ (part ++ back) else l) (overlay-between k (big_endian 2 (mended sum before after zero)) inside)
+      ap (λ s. if is_absent zero s then front ++ (part ++ back) else with_word (front ++ (part ++ back)) (n + k) (mended s before after zero)) (number-between front part back n size k 2 inside)
+      ∙ ap (λ l. if is_absent zero sum then front ++ (part ++ back) else l) (overlay-between front part back n size k (big_endian 2 (mended sum before after zero)) inside)
       ∙ moved (is_absent zero sum) (with_word part k (mended sum before after zero))
     where
       moved : (t : Bool) (l : List ℕ) → (if t then front ++ (part ++ back) else front ++ (l ++ back)) ≡ front ++ ((if t then part else l) ++ back)

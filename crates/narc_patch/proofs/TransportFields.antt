@@ -4,15 +4,15 @@ use Rattle.narc_bits.specs.Bits.{overlay}
 use Rattle.narc_bits.specs.Octets.{big_endian, number_at}
 use Rattle.narc_bits.proofs.Octets.{IsOctets-big_endian}
 use Rattle.narc_bits.proofs.NetworkOrder.{number_of-big_endian}
+use Rattle.narc_bits.proofs.NumbersAt.{number-between}
+use Rattle.narc_bits.proofs.WordValues.{long_high, long_low}
 use Rattle.narc_packet.specs.PacketView.{Ipv4View, UdpView, TcpView, UdpBody, TcpBody}
 use Rattle.narc_packet.specs.Udp.{udp_octets}
 use Rattle.narc_packet.specs.Tcp.{tcp_octets}
+use Rattle.narc_mend.proofs.Holes.{IsWordChange}
 use Rattle.narc_patch.specs.Change.{changed, with_octets}
 use Rattle.narc_patch.specs.Patched.{whole, part, words, udp_sums, tcp_sums}
-use Rattle.narc_patch.proofs.LongNumbers.{long_high, long_low}
-use Rattle.narc_patch.proofs.Places.{number-between}
 use Rattle.narc_patch.proofs.HeaderSteps.{IsIpv4Frame}
-use Rattle.narc_patch.proofs.SummedChanges.{IsWordChange}
 use Rattle.narc_patch.proofs.DataSteps.{front, front_layout, front_size}
 use Rattle.narc_patch.proofs.PortSteps.{IsUdpField, IsTcpField, udp_step, tcp_step}
 

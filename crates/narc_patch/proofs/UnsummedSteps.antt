@@ -1,11 +1,12 @@
 -- A frame with an address of Ethernet, or a field of an ARP packet, assigned, which no checksum is over.
-use Rattle.std.proofs.Common.{◌≡◌, ℕ, ◌+◌, ◌*◌, ◌%◌, ◌<◌, ◌≤◌, ◌^◌, List, [], ◌∷◌, ◌++◌, Option, Some, None, length, drop, fold, refl, sym, ap, ◌∙◌, subst, append-nil, arith, lit≤, length-append}
+use Rattle.std.proofs.Common.{◌≡◌, ℕ, ◌+◌, ◌*◌, ◌%◌, ◌<◌, ◌≤◌, ◌^◌, List, [], ◌∷◌, ◌++◌, Option, Some, None, length, drop, fold, refl, sym, ap, ◌∙◌, subst, arith, lit≤, length-append}
 use Rattle.std.specs.Prelude.{IfSome, unwrap_or}
-use Rattle.std.proofs.lemmas.List.{drop_all}
 use Rattle.narc_bits.specs.Bits.{overlay}
 use Rattle.narc_bits.specs.Octets.{IsOctets, big_endian}
-use Rattle.narc_bits.proofs.Lists.{length-overlay, overlay-nil, overlay-overlay, overlay-front}
+use Rattle.narc_bits.proofs.Lists.{length-overlay, overlay-nil, overlay-overlay, overlay-front, overlay-all, overlay-behind}
 use Rattle.narc_bits.proofs.Octets.{IsOctets-big_endian}
+use Rattle.narc_bits.proofs.Overlays.{drop-overlay, overlay-between, IsOctets-overlay}
+use Rattle.narc_bits.proofs.WordValues.{word_octets}
 use Rattle.narc_packet.specs.declared.packet.Arp.{Arp}
 use Rattle.narc_packet.specs.PacketView.{PacketView, ArpBody}
 use Rattle.narc_packet.specs.Ranges.{IsMac, IsIp, IsArpInRange}
@@ -15,8 +16,6 @@ use Rattle.narc_edit.specs.Ranges.{AreInRange}
 use Rattle.narc_edit.specs.Edited.{edited_arp}
 use Rattle.narc_patch.specs.Change.{changed}
 use Rattle.narc_patch.specs.Patched.{whole, words, assigned, eth_changes, arp_changes}
-use Rattle.narc_patch.proofs.Places.{drop-overlay, overlay-behind, overlay-between, IsOctets-overlay}
-use Rattle.narc_patch.proofs.AddressSteps.{word_octets}
 use Rattle.narc_patch.proofs.PatchedIpv4.{in_turn}
 
 odd : 1 % 2 ≡ 0 → ⊥
@@ -32,10 +31,6 @@ unsummed (a ∷ b ∷ v) frame at even each room =
     unsummed v first (at + 2) (omega (arith, even)) each.1.1 (omega (arith, size, room))
     ∙ ap (λ s. overlay (overlay frame at s) (at + 2) v) (word_octets a b each.0 each.1.0)
     ∙ overlay-overlay frame at (a ∷ b ∷ []) v (omega arith)
-
-overlay_all : (l v : List ℕ) → length v ≡ length l → overlay l 0 v ≡ v
-unfolding overlay
-overlay_all l v size = ap (λ a. v ++ a) (drop_all (0 + length v) l (omega (arith, size))) ∙ append-nil v
 
 module _ (p : PacketView) (frame : List ℕ) (f : IsFrame p frame) where
   abbrev type : List ℕ
@@ -56,7 +51,7 @@ module _ (p : PacketView) (frame : List ℕ) (f : IsFrame p frame) where
     layout = ap (λ l. overlay l 0 v) f.layout
         ∙ overlay-front ethernet_header f.content 0 v (omega (arith, header_size, is.0))
         ∙ ap (λ l. l ++ f.content) (overlay-front (p.dst ++ p.src) type 0 v (omega (arith, length-append p.dst p.src, f.dst.0, is.0))
-        ∙ ap (λ l. l ++ type) (overlay-front p.dst p.src 0 v (omega (arith, f.dst.0, is.0)) ∙ ap (λ l. l ++ p.src) (overlay_all p.dst v (omega (arith, f.dst.0, is.0)))));
+        ∙ ap (λ l. l ++ type) (overlay-front p.dst p.src 0 v (omega (arith, f.dst.0, is.0)) ∙ ap (λ l. l ++ p.src) (overlay-all p.dst v (omega (arith, f.dst.0, is.0)))));
     body = f.body;
     dst = is;
     src = f.src;
@@ -69,7 +64,7 @@ module _ (p : PacketView) (frame : List ℕ) (f : IsFrame p frame) where
     layout = ap (λ l. overlay l 6 v) f.layout
         ∙ overlay-front ethernet_header f.content 6 v (omega (arith, header_size, is.0))
         ∙ ap (λ l. l ++ f.content) (overlay-front (p.dst ++ p.src) type 6 v (omega (arith, length-append p.dst p.src, f.dst.0, f.src.0, is.0))
-        ∙ ap (λ l. l ++ type) (overlay-behind p.dst p.src 6 0 v f.dst.0 ∙ ap (λ l. p.dst ++ l) (overlay_all p.src v (omega (arith, f.src.0, is.0)))));
+        ∙ ap (λ l. l ++ type) (overlay-behind p.dst p.src 6 0 v f.dst.0 ∙ ap (λ l. p.dst ++ l) (overlay-all p.src v (omega (arith, f.src.0, is.0)))));
     body = f.body;
     dst = f.dst;
     src = is;
@@ -161,7 +156,7 @@ module _ (p : PacketView) (a : Arp) (size : ℕ) (frame : List ℕ) (f : ArpFram
       ∙ ap (λ l. before ++ l) (overlay-front (two ++ a.target_mac) a.target_ip 0 v (omega (arith, length-append two a.target_mac, length-append a.sender_mac a.sender_ip, r.sender_mac.0, is.0))
       ∙ ap (λ l. l ++ a.target_ip) (overlay-front two a.target_mac 0 v (omega (arith, length-append a.sender_mac a.sender_ip, r.sender_mac.0, is.0))
       ∙ ap (λ l. l ++ a.target_mac) (overlay-front a.sender_mac a.sender_ip 0 v (omega (arith, r.sender_mac.0, is.0))
-      ∙ ap (λ l. l ++ a.sender_ip) (overlay_all a.sender_mac v (omega (arith, r.sender_mac.0, is.0))))))
+      ∙ ap (λ l. l ++ a.sender_ip) (overlay-all a.sender_mac v (omega (arith, r.sender_mac.0, is.0))))))
 
   spa_overlaid : (v : List ℕ) → IsIp v → overlay (arp_octets a) 14 v ≡ arp_octets (record a { sender_ip = v })
   spa_overlaid v is =
@@ -170,7 +165,7 @@ module _ (p : PacketView) (a : Arp) (size : ℕ) (frame : List ℕ) (f : ArpFram
       ∙ ap (λ l. before ++ l) (overlay-front (two ++ a.target_mac) a.target_ip 6 v (omega (arith, length-append two a.target_mac, length-append a.sender_mac a.sender_ip, r.sender_mac.0, r.sender_ip.0, is.0))
       ∙ ap (λ l. l ++ a.target_ip) (overlay-front two a.target_mac 6 v (omega (arith, length-append a.sender_mac a.sender_ip, r.sender_mac.0, r.sender_ip.0, is.0))
       ∙ ap (λ l. l ++ a.target_mac) (overlay-behind a.sender_mac a.sender_ip 6 0 v r.sender_mac.0
-      ∙ ap (λ l. a.sender_mac ++ l) (overlay_all a.sender_ip v (omega (arith, r.sender_ip.0, is.0))))))
+      ∙ ap (λ l. a.sender_mac ++ l) (overlay-all a.sender_ip v (omega (arith, r.sender_ip.0, is.0))))))
 
   tha_overlaid : (v : List ℕ) → IsMac v → overlay (arp_octets a) 18 v ≡ arp_octets (record a { target_mac = v })
   tha_overlaid v is =
@@ -179,7 +174,7 @@ module _ (p : PacketView) (a : Arp) (size : ℕ) (frame : List ℕ) (f : ArpFram
       overlay-behind before (two ++ a.target_mac ++ a.target_ip) 8 10 v refl
       ∙ ap (λ l. before ++ l) (overlay-front (two ++ a.target_mac) a.target_ip 10 v (omega (arith, length-append two a.target_mac, ten, r.target_mac.0, is.0))
       ∙ ap (λ l. l ++ a.target_ip) (overlay-behind two a.target_mac 10 0 v ten
-      ∙ ap (λ l. two ++ l) (overlay_all a.target_mac v (omega (arith, r.target_mac.0, is.0)))))
+      ∙ ap (λ l. two ++ l) (overlay-all a.target_mac v (omega (arith, r.target_mac.0, is.0)))))
 
   tpa_overlaid : (v : List ℕ) → IsIp v → overlay (arp_octets a) 24 v ≡ arp_octets (record a { target_ip = v })
   tpa_overlaid v is =
@@ -187,7 +182,7 @@ module _ (p : PacketView) (a : Arp) (size : ℕ) (frame : List ℕ) (f : ArpFram
       let three = two ++ a.target_mac in
       let sixteen : length three ≡ 16 = omega (arith, length-append two a.target_mac, length-append a.sender_mac a.sender_ip, r.sender_mac.0, r.sender_ip.0, r.target_mac.0) in
       overlay-behind before (three ++ a.target_ip) 8 16 v refl
-      ∙ ap (λ l. before ++ l) (overlay-behind three a.target_ip 16 0 v sixteen ∙ ap (λ l. three ++ l) (overlay_all a.target_ip v (omega (arith, r.target_ip.0, is.0))))
+      ∙ ap (λ l. before ++ l) (overlay-behind three a.target_ip 16 0 v sixteen ∙ ap (λ l. three ++ l) (overlay-all a.target_ip v (omega (arith, r.target_ip.0, is.0))))
 
   pub arp_room : 42 ≤ length frame
   arp_room =
