@@ -8,8 +8,8 @@ use narc_stack::encode_frame;
 
 /// A packet that is encoded into the place of its frame.
 #[derive(Drop)]
-pub(crate) struct Encoded<'a> {
-    pub(crate) packet: &'a Packet<'a>,
+pub struct Encoded<'a> {
+    pub packet: &'a Packet<'a>,
 }
 
 impl Fill for Encoded<'_> {

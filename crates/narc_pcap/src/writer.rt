@@ -11,10 +11,10 @@ use narc_world::{Failed, Sink};
 use std::marker::Model;
 
 /// How many octets the header of a capture has.
-const HEADER: usize = 24;
+pub const HEADER_SIZE: usize = 24;
 
 /// How many octets the header of a record has.
-const HEAD: usize = 16;
+pub const HEAD_SIZE: usize = 16;
 
 /// Writes a number into the front of a room.
 fn put_16(big: bool, number: u16, room: &mut [u8])
@@ -50,9 +50,9 @@ fn magic(unit: Unit) -> u32
     }
 }
 
-/// Writes the header of a capture.
-fn put_header(header: &Header, room: &mut [u8])
-    requires { length room.old ≡ HEADER }
+/// Writes the header of a capture, of 24 octets.
+pub fn put_header(header: &Header, room: &mut [u8])
+    requires { length room.old ≡ HEADER_SIZE }
     ensures { room.new ≡ header_octets header.now }
 {
     put_32(header.big, magic(header.unit), room);
@@ -64,9 +64,9 @@ fn put_header(header: &Header, room: &mut [u8])
     put_32(header.big, 1, &mut room[20..]);
 }
 
-/// Writes the header of a record.
-fn put_head(big: bool, sec: u32, sub: u32, captured: u32, original: u32, room: &mut [u8])
-    requires { length room.old ≡ HEAD }
+/// Writes the header of a record, of 16 octets.
+pub fn put_head(big: bool, sec: u32, sub: u32, captured: u32, original: u32, room: &mut [u8])
+    requires { length room.old ≡ HEAD_SIZE }
     ensures { room.new ≡ head_octets big sec sub captured original }
 {
     put_32(big, sec, room);
@@ -77,7 +77,7 @@ fn put_head(big: bool, sec: u32, sub: u32, captured: u32, original: u32, room: &
 
 /// Writes a record into a buffer, behind its first `at` octets, and answers where it ends. Its frame is written straight into
 /// its place.
-fn put_record<F: Fill>(
+pub fn put_record<F: Fill>(
     buffer: &mut [u8],
     at: usize,
     big: bool,
@@ -87,12 +87,12 @@ fn put_record<F: Fill>(
 ) -> usize
     requires can { F.can_fill frame.now }
     requires few { length (F.frame frame.now) ≤ LONGEST_FRAME }
-    requires room { at + (HEAD + length (F.frame frame.now)) ≤ length buffer.old }
-    ensures end { result ≡ at + (HEAD + length (F.frame frame.now)) }
+    requires room { at + (HEAD_SIZE + length (F.frame frame.now)) ≤ length buffer.old }
+    ensures end { result ≡ at + (HEAD_SIZE + length (F.frame frame.now)) }
     ensures written { take result buffer.new ≡ take at buffer.old ++ whole_record big sec sub (F.frame frame.now) }
     ensures len { length buffer.new ≡ length buffer.old }
 {
-    let start = at + HEAD;
+    let start = at + HEAD_SIZE;
     let end = start + (LONGEST_FRAME as usize).min(buffer.len() - start);
     let count = frame.fill(&mut buffer[start..end]);
     put_head(
@@ -120,7 +120,7 @@ pub fn write_header<K: Sink>(sink: &mut K, header: &Header) -> Result<(), Failed
     ensures pushed { IsPushed result (K.held sink.old) (K.held sink.new) (header_octets header.now) }
     ensures faults { CountsFaults (OnErr result) (K.faults sink.old) (K.faults sink.new) }
 {
-    let mut octets = [0; HEADER];
+    let mut octets = [0; HEADER_SIZE];
     put_header(header, &mut octets);
     sink.push(&octets)
 }
@@ -135,7 +135,7 @@ pub fn write_record<K: Sink>(
     ensures pushed { IsPushed result (K.held sink.old) (K.held sink.new) (record_octets big head.now frame.now) }
     ensures faults { CountsFaults (OnErr result) (K.faults sink.old) (K.faults sink.new) }
 {
-    let mut numbers = [0; HEAD];
+    let mut numbers = [0; HEAD_SIZE];
     put_head(
         big,
         head.sec,
@@ -178,21 +178,21 @@ impl Writer {
 
     /// Writes the header of a capture.
     pub fn header(&mut self, header: &Header)
-        requires { length self.old.octets + HEADER ≤ self.old.size }
+        requires { length self.old.octets + HEADER_SIZE ≤ self.old.size }
         ensures octets { self.new.octets ≡ self.old.octets ++ header_octets header.now }
         ensures size { self.new.size ≡ self.old.size }
     {
-        let mut octets = [0; HEADER];
+        let mut octets = [0; HEADER_SIZE];
         put_header(header, &mut octets);
         put_octets(&mut self.buffer, self.len, &octets);
-        self.len += HEADER;
+        self.len += HEADER_SIZE;
     }
 
     /// Writes a record that has its whole frame, which is written straight into its place.
     pub fn frame<F: Fill>(&mut self, big: bool, sec: u32, sub: u32, frame: &F)
         requires can { F.can_fill frame.now }
         requires few { length (F.frame frame.now) ≤ LONGEST_FRAME }
-        requires room { length self.old.octets + (HEAD + length (F.frame frame.now)) ≤ self.old.size }
+        requires room { length self.old.octets + (HEAD_SIZE + length (F.frame frame.now)) ≤ self.old.size }
         ensures octets { self.new.octets ≡ self.old.octets ++ whole_record big sec sub (F.frame frame.now) }
         ensures size { self.new.size ≡ self.old.size }
     {
@@ -201,11 +201,11 @@ impl Writer {
 
     /// Writes a record as it came, and the octets of its frame.
     pub fn record(&mut self, big: bool, head: &Record, octets: &[u8])
-        requires { length self.old.octets + (HEAD + length octets.now) ≤ self.old.size }
+        requires { length self.old.octets + (HEAD_SIZE + length octets.now) ≤ self.old.size }
         ensures octets { self.new.octets ≡ self.old.octets ++ record_octets big head.now octets.now }
         ensures size { self.new.size ≡ self.old.size }
     {
-        let mut numbers = [0; HEAD];
+        let mut numbers = [0; HEAD_SIZE];
         put_head(
             big,
             head.sec,
@@ -215,8 +215,8 @@ impl Writer {
             &mut numbers,
         );
         put_octets(&mut self.buffer, self.len, &numbers);
-        put_octets(&mut self.buffer, self.len + HEAD, octets);
-        self.len += HEAD + octets.len();
+        put_octets(&mut self.buffer, self.len + HEAD_SIZE, octets);
+        self.len += HEAD_SIZE + octets.len();
     }
 
     /// Pushes what is gathered, in one push. `Failed` only where the sink failed.
