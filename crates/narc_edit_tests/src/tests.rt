@@ -5,6 +5,7 @@ ghost use Rattle.narc_packet.specs.Frame.{IsFrame};
 ghost use Rattle.narc_packet.specs.Answer.{IsOnlyAnswer};
 ghost use Rattle.narc_stack.specs.AnswerView.{answer_view};
 
+mod free;
 mod names;
 mod octets;
 mod words;
@@ -19,6 +20,24 @@ use std::alloc::Global;
 use std::marker::Brand;
 use std::sync::ledger::{Blank, Ledger};
 use std::test::Fail;
+
+/// A datagram with one octet of data, full of free choices.
+const FREE: [u8; 56] = [
+    2, 0, 0, 0, 0, 0xaa, // destination
+    2, 0, 0, 0, 0, 0xbb, // source
+    8, 0, // type: IPv4
+    0x46, 0, 0, 35, // version and header length, type of service, total length
+    0, 0, 0, 0, // identification, flags and offset
+    64, 17, 0x86, 0x1a, // time to live, protocol: UDP, checksum
+    10, 0, 0, 1, // source
+    10, 0, 0, 2, // destination
+    1, 0, 0xde, 0xad, // no operation, end of options, and two octets behind it
+    0, 1, 0, 2, // ports
+    0, 9, 0xec, 0xd5, // length and checksum
+    0xff, // data
+    0xee, 0xee, // surplus
+    0xaa, 0xaa, 0xaa, 0xaa, 0xaa, 0xaa, 0xaa, // padding
+];
 
 /// The assignments of these words, if they are some.
 fn read(alloc: Global, assignments: &[&str]) -> Result<Option<Edits>, Fail> {
@@ -68,6 +87,18 @@ fn patch(edits: &Edits, octets: &mut [u8]) -> bool
     }
     patch_frame(edits, octets);
     true
+}
+
+/// The octets after these assignments in place.
+fn patched<const N: usize>(alloc: Global, octets: [u8; N], words: &[&str]) -> Result<[u8; N], Fail>
+    requires { N ≤ 66 }
+{
+    let edits = read(alloc, words)?.ok_or("no assignments")?;
+    let mut edited = octets;
+    if !patch(&edits, &mut edited) {
+        return Err("no frame")?;
+    }
+    Ok(edited)
 }
 
 /// Writes the frame of the edited packet into the front of the room, and answers how many octets it has; none where the

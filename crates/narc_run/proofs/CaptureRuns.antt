@@ -5,7 +5,7 @@ use Rattle.narc_pcap.specs.declared.record.End.{End}
 use Rattle.narc_pcap.specs.declared.record.End.TheVariants.{Clean, Torn, Bad}
 use Rattle.narc_pcap.specs.Capture.{CaptureView, capture, is_bad}
 use Rattle.narc_pcap.proofs.Cuts.{capture-decided}
-use Rattle.narc_run.specs.Job.{CaptureJob, Capture, Show, Check, Rewrite}
+use Rattle.narc_run.specs.Job.{CaptureJob, Capture, Show, Check, Edit}
 use Rattle.narc_run.specs.Findings.{Told, AreTold}
 use Rattle.narc_run.specs.Output.{is_refused}
 use Rattle.narc_run.specs.Verdict.{end_verdict, records_status}
@@ -28,7 +28,7 @@ few_statuses Check told = at (nat_eq (count_by is_refused told) 0) where
   at : (b : Bool) → (if b then 0 else 1) ≤ 1
   at true = omega arith
   at false = omega arith
-few_statuses (Rewrite es) told = omega arith
+few_statuses (Edit way es) told = omega arith
 
 pub steady : (c : CaptureJob) → IsSteady (Capture c)
 steady c = record {

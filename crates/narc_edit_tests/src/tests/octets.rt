@@ -1,40 +1,7 @@
 //! Each octet of frames that are edited in place, against sums that were computed from nothing outside.
-ghost use Rattle.std.specs.Prelude.{◌≤◌};
-
-use super::{is_frame, patch, read};
+use super::{FREE, is_frame, patched};
 use narc_samples::{ARP_REQUEST, CONNECTION_REQUEST, DATAGRAM};
-use std::alloc::Global;
 use std::test::Fail;
-
-/// A datagram with one octet of data, full of free choices.
-const FREE: [u8; 56] = [
-    2, 0, 0, 0, 0, 0xaa, // destination
-    2, 0, 0, 0, 0, 0xbb, // source
-    8, 0, // type: IPv4
-    0x46, 0, 0, 35, // version and header length, type of service, total length
-    0, 0, 0, 0, // identification, flags and offset
-    64, 17, 0x86, 0x1a, // time to live, protocol: UDP, checksum
-    10, 0, 0, 1, // source
-    10, 0, 0, 2, // destination
-    1, 0, 0xde, 0xad, // no operation, end of options, and two octets behind it
-    0, 1, 0, 2, // ports
-    0, 9, 0xec, 0xd5, // length and checksum
-    0xff, // data
-    0xee, 0xee, // surplus
-    0xaa, 0xaa, 0xaa, 0xaa, 0xaa, 0xaa, 0xaa, // padding
-];
-
-/// The octets after these assignments in place.
-fn patched<const N: usize>(alloc: Global, octets: [u8; N], words: &[&str]) -> Result<[u8; N], Fail>
-    requires { N ≤ 60 }
-{
-    let edits = read(alloc, words)?.ok_or("no assignments")?;
-    let mut edited = octets;
-    if !patch(&edits, &mut edited) {
-        return Err("no frame")?;
-    }
-    Ok(edited)
-}
 
 /// The datagram with these octets from octet 18 on.
 fn datagram(behind: [u8; 24]) -> [u8; 42] {
@@ -80,6 +47,21 @@ fn both_spellings_of_zero_are_written_and_mended(rt: HostRuntime) -> Result<(), 
     assert!(rt; patched(rt.alloc(), DATAGRAM, &["ip.id=26319"])? == zero);
     assert!(rt; patched(rt.alloc(), ones, &["udp.sport=1"])? == DATAGRAM);
     assert!(rt; patched(rt.alloc(), zero, &["ip.id=0"])? == DATAGRAM);
+    Ok(())
+}
+
+/// In the header of IPv4 ones are a good sum, and written as 0 once they are mended, though the value is the same.
+#[test]
+fn a_sum_of_ones_stays_where_no_field_under_it_is_assigned(rt: HostRuntime) -> Result<(), Fail> {
+    let mut ones = DATAGRAM;
+    ones[18..20].copy_from_slice(&[0x66, 0xcf]);
+    ones[24..26].copy_from_slice(&[0xff, 0xff]);
+    let mut addressed = ones;
+    addressed[5] = 9;
+    let mut mended = ones;
+    mended[24..26].copy_from_slice(&[0, 0]);
+    assert!(rt; patched(rt.alloc(), ones, &["eth.dst=020000000009", "udp.dport=2"])? == addressed);
+    assert!(rt; patched(rt.alloc(), ones, &["ip.id=26319"])? == mended);
     Ok(())
 }
 

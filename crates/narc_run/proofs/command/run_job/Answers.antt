@@ -38,12 +38,12 @@ returns-in-Some-Check g c =
     (g.S.Source.faults c.args.source.now) (g.S.Source.faults c.run_check.new.source) (g.K.Sink.faults c.args.sink.now) (g.K.Sink.faults c.run_check.new.sink)
     c.args.steps.now c.run_check.new.steps c.run_check.result.status c.run_check.result.at) (c.run_check.new.source ≡ c.args.source.now) (c.run_check.new.sink ≡ c.args.sink.now)) (asked_as _ c.in-Some-Check.field-0 variant.Check c.in-Some-Check.is same) c.run_check.ensures
 
-pub returns-in-Some-Rewrite : goal.returns-in-Some-Rewrite
-returns-in-Some-Rewrite g c =
-    let same = c.in-Some-Rewrite.field-0-is in
-    subst (λ (asked : Option Job). IsRight (run_of asked (g.S.Source.left c.args.source.now) (g.S.Source.left c.run_rewrite.new.source) (g.K.Sink.held c.args.sink.now) (g.K.Sink.held c.run_rewrite.new.sink)
-    (g.S.Source.faults c.args.source.now) (g.S.Source.faults c.run_rewrite.new.source) (g.K.Sink.faults c.args.sink.now) (g.K.Sink.faults c.run_rewrite.new.sink)
-    c.args.steps.now c.run_rewrite.new.steps c.run_rewrite.result.status c.run_rewrite.result.at) (c.run_rewrite.new.source ≡ c.args.source.now) (c.run_rewrite.new.sink ≡ c.args.sink.now)) (asked_as _ c.in-Some-Rewrite.field-0 (variant.Rewrite c.in-Some-Rewrite.edits) c.in-Some-Rewrite.is same) c.run_rewrite.ensures
+pub returns-in-Some-Edit : goal.returns-in-Some-Edit
+returns-in-Some-Edit g c =
+    let same = c.in-Some-Edit.field-0-is in
+    subst (λ (asked : Option Job). IsRight (run_of asked (g.S.Source.left c.args.source.now) (g.S.Source.left c.run_edit.new.source) (g.K.Sink.held c.args.sink.now) (g.K.Sink.held c.run_edit.new.sink)
+    (g.S.Source.faults c.args.source.now) (g.S.Source.faults c.run_edit.new.source) (g.K.Sink.faults c.args.sink.now) (g.K.Sink.faults c.run_edit.new.sink)
+    c.args.steps.now c.run_edit.new.steps c.run_edit.result.status c.run_edit.result.at) (c.run_edit.new.source ≡ c.args.source.now) (c.run_edit.new.sink ≡ c.args.sink.now)) (asked_as _ c.in-Some-Edit.field-0 (variant.Edit c.in-Some-Edit.way c.in-Some-Edit.edits) c.in-Some-Edit.is same) c.run_edit.ensures
 
 pub returns-in-Some-Build : goal.returns-in-Some-Build
 returns-in-Some-Build g c =
