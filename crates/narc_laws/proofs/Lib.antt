@@ -1,3 +1,5 @@
 pub mod Numbers
 pub mod Shown
 pub mod Texts
+pub mod ReadWritten
+pub mod Rewritten

@@ -1,1 +1,3 @@
 pub mod CaptureTexts
+pub mod ReadCaptures
+pub mod RewrittenCaptures

@@ -1,7 +1,22 @@
-//! What `show` and `build` are to each other.
+//! What `show`, `build` and `rewrite` are to each other, and to what they read.
 ghost use Rattle.narc_laws.specs.CaptureTexts.{CaptureTextsAreShown};
+ghost use Rattle.narc_laws.specs.ReadCaptures.{ReadHeadersAreWritten, ReadRecordsAreWritten};
+ghost use Rattle.narc_laws.specs.RewrittenCaptures.{RewrittenCapturesStay, UneditedPacketsStay};
 
 /// A text is one of a capture, which `build` accepts, exactly where `show` writes it for a whole capture of packets.
 pub fn capture_texts_are_shown()
     ensures { CaptureTextsAreShown }
+{}
+
+/// What is read as the header of a capture or of a record is what is written of it. So the header of a capture that `rewrite` passes on, and
+/// each record without a packet, are the octets that came.
+pub fn read_captures_are_written()
+    ensures headers { ReadHeadersAreWritten }
+    ensures records { ReadRecordsAreWritten }
+{}
+
+/// Without assignments each packet stays, and `rewrite` without assignments of what `rewrite` wrote writes the same octets.
+pub fn rewritten_captures_stay()
+    ensures packets { UneditedPacketsStay }
+    ensures captures { RewrittenCapturesStay }
 {}
