@@ -1,5 +1,5 @@
 -- `rewrite` without assignments of what `rewrite` wrote writes the same octets.
-use Rattle.std.proofs.Common.{◌≡◌, ℕ, ◌+◌, ◌<◌, ◌^◌, Bool, true, false, List, [], ◌∷◌, ◌++◌, length, map, drop, Option, Some, None, Ok, Err, refl, sym, ap, ◌∙◌, subst, arith, append-nil, length-append}
+use Rattle.std.proofs.Common.{◌≡◌, ℕ, ◌+◌, ◌<◌, ◌^◌, Bool, List, [], ◌∷◌, ◌++◌, length, map, drop, Option, Some, None, Ok, Err, refl, sym, ap, ◌∙◌, subst, arith, append-nil, length-append}
 use Rattle.std.specs.Prelude.{flat_map}
 use Rattle.std.specs.List.{AllByRecursion}
 use Rattle.std.proofs.lemmas.Bool.{ltb-true}
@@ -13,7 +13,6 @@ use Rattle.narc_stack.proofs.Canonical.{canonical_is_frame}
 use Rattle.narc_stack.proofs.WellFormed.{well_formed_admitted, well_formed_of, canonical_small}
 use Rattle.narc_pcap.specs.declared.header.Header.{Header}
 use Rattle.narc_pcap.specs.declared.record.Record.{Record}
-use Rattle.narc_pcap.specs.declared.record.End.{End}
 use Rattle.narc_pcap.specs.declared.record.End.TheVariants.{Clean}
 use Rattle.narc_pcap.specs.Capture.{Entry, CaptureView, capture, headed}
 use Rattle.narc_pcap.specs.Laws.{AreRecords, IsCut, IsRecord, size_of}

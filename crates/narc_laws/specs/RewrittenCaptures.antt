@@ -6,7 +6,7 @@ use Rattle.narc_edit.specs.declared.edits.Edits.{Edits}
 use Rattle.narc_edit.specs.Assignments.{no_edits}
 use Rattle.narc_edit.specs.Edited.{edited}
 use Rattle.narc_packet.specs.WellFormed.{IsWellFormed}
-use Rattle.narc_run.specs.Job.{CaptureJob, Job, Capture, Rewrite}
+use Rattle.narc_run.specs.Job.{Job, Capture, Rewrite}
 use Rattle.narc_run.specs.Findings.{Findings, AreFindings}
 use Rattle.narc_run.specs.Output.{output}
 
