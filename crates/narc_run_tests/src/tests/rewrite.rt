@@ -62,13 +62,12 @@ fn packets_are_edited_and_other_records_stay(rt: HostRuntime) -> Result<(), Fail
 
 #[test]
 fn a_capture_in_nanoseconds_keeps_its_header(rt: HostRuntime) -> Result<(), Fail> {
+    let header =
+        b"\x4d\x3c\xb2\xa1\x02\x00\x04\x00\x01\x02\x03\x04\x05\x06\x07\x08\x09\x0a\x0b\x0c\x01\x00\x00\x00";
     let mut octets = CAPTURE_LITTLE;
+    octets[..24].copy_from_slice(header);
     let mut written = REWRITTEN_LITTLE;
-    for header in [&mut octets[..24], &mut written[..24]] {
-        header.copy_from_slice(
-            b"\x4d\x3c\xb2\xa1\x02\x00\x04\x00\x01\x02\x03\x04\x05\x06\x07\x08\x09\x0a\x0b\x0c\x01\x00\x00\x00",
-        );
-    }
+    written[..24].copy_from_slice(header);
     let told = end_of(rt.alloc(), &WORDS, World::of(&octets))?;
     expect_end(&rt, &told, 0, 0, &written);
     Ok(())
