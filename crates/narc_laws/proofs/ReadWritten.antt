@@ -1,5 +1,5 @@
 -- What is read as a header, and as the header of a record, is what is written of it.
-use Rattle.std.proofs.Common.{◌≡◌, ℕ, zero, suc, ◌+◌, ◌<◌, ◌≤◌, Bool, true, false, List, [], ◌∷◌, ◌++◌, length, take, drop, Option, Some, None, Result, Ok, Err, refl, sym, ap, ◌∙◌, subst, arith, rules, append_assoc, length-drop}
+use Rattle.std.proofs.Common.{◌≡◌, ℕ, ◌+◌, ◌<◌, ◌≤◌, Bool, true, false, List, [], ◌∷◌, ◌++◌, length, take, drop, Option, Some, None, Result, Ok, Err, refl, sym, ap, ◌∙◌, arith, append_assoc, length-drop}
 use Rattle.std.proofs.lemmas.Grind.{common_steps}
 use Rattle.std.proofs.lemmas.List.{drop-drop, take-append-drop, take_all}
 use Rattle.narc_bits.specs.Octets.{IsOctets}
@@ -8,7 +8,7 @@ use Rattle.byteorder.specs.Endian.{big_bytes, little_bytes, big_number, little_n
 use Rattle.narc_pcap.specs.declared.header.Header.{Header}
 use Rattle.narc_pcap.specs.declared.header.Unit.{Unit as TimeUnit}
 use Rattle.narc_pcap.specs.declared.header.Unit.TheVariants.{Micro, Nano}
-use Rattle.narc_pcap.specs.Capture.{number, order_of, header_at, header_in, header_of, record_at}
+use Rattle.narc_pcap.specs.Capture.{number, order_of, header_at, header_in, record_at}
 use Rattle.narc_pcap.specs.Written.{number_octets, magic_of, header_octets, head_octets}
 use Rattle.narc_laws.specs.ReadCaptures.{ReadHeadersAreWritten, ReadRecordsAreWritten}
 

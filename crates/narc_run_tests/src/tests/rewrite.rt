@@ -1,7 +1,7 @@
 //! Captures with edited packets.
 use crate::tests::{CAPTURE, CAPTURE_LITTLE, USAGE_LINE, World, end_of, expect_end, zeros};
 use narc_samples::{CONNECTION_REQUEST, DATAGRAM};
-use std::alloc::{AllocError, Global};
+use std::alloc::Global;
 use std::test::Fail;
 
 /// The capture with operation 2 in its ARP packet, whose frame is written anew in 60 octets.
@@ -62,13 +62,12 @@ fn packets_are_edited_and_other_records_stay(rt: HostRuntime) -> Result<(), Fail
 
 #[test]
 fn a_capture_in_nanoseconds_keeps_its_header(rt: HostRuntime) -> Result<(), Fail> {
+    let header =
+        b"\x4d\x3c\xb2\xa1\x02\x00\x04\x00\x01\x02\x03\x04\x05\x06\x07\x08\x09\x0a\x0b\x0c\x01\x00\x00\x00";
     let mut octets = CAPTURE_LITTLE;
+    octets[..24].copy_from_slice(header);
     let mut written = REWRITTEN_LITTLE;
-    for header in [&mut octets[..24], &mut written[..24]] {
-        header.copy_from_slice(
-            b"\x4d\x3c\xb2\xa1\x02\x00\x04\x00\x01\x02\x03\x04\x05\x06\x07\x08\x09\x0a\x0b\x0c\x01\x00\x00\x00",
-        );
-    }
+    written[..24].copy_from_slice(header);
     let told = end_of(rt.alloc(), &WORDS, World::of(&octets))?;
     expect_end(&rt, &told, 0, 0, &written);
     Ok(())
@@ -139,8 +138,11 @@ fn each_push_that_fails_leaves_a_front(rt: HostRuntime) -> Result<(), Fail> {
 }
 
 /// A capture of one record with this frame.
-fn capture_of(alloc: Global, frame: &[u8]) -> Result<Vec<u8>, AllocError> {
-    let size = (frame.len() as u32).to_be_bytes();
+fn capture_of(alloc: Global, frame: &[u8]) -> Result<Vec<u8>, Fail> {
+    let size = u32::try_from(frame.len())
+        .ok()
+        .ok_or("too long")?
+        .to_be_bytes();
     let mut octets = CAPTURE[..32].to_vec(alloc)?;
     octets.extend_from_slice(&size)?;
     octets.extend_from_slice(&size)?;
@@ -209,6 +211,7 @@ fn a_frame_may_be_longer_than_a_page(rt: HostRuntime) -> Result<(), Fail> {
     for size in [65_496, 65_520, 65_521, 262_144] {
         let mut frame = zeros(rt.alloc(), size)?;
         let octets = capture_of(rt.alloc(), &frame)?;
+        assert!(rt; frame.len() > 5);
         frame[5] = 1;
         let wanted = capture_of(rt.alloc(), &frame)?;
         let words = ["rewrite", "eth.dst=000000000001"];
