@@ -1,4 +1,4 @@
 mod Assigning
-mod EditedWellFormed
+pub mod EditedWellFormed
 mod Spellings
 mod Guesses

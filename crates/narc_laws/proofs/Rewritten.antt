@@ -24,12 +24,14 @@ use Rattle.narc_pcap.proofs.WrittenSizes.{head-size}
 use Rattle.narc_edit.specs.declared.edits.Edits.{Edits}
 use Rattle.narc_edit.specs.Assignments.{no_edits}
 use Rattle.narc_edit.specs.Edited.{edited, edited_eth_body, edited_ip_body}
+use Rattle.narc_edit.specs.Ranges.{AreInRange}
+use Rattle.narc_edit.proofs.EditedWellFormed.{edited_is_well_formed}
 use Rattle.narc_run.specs.Job.{Rewrite}
 use Rattle.narc_run.specs.Findings.{Findings, Told, IsTold, AreTold, IsEntryAnswer}
 use Rattle.narc_run.specs.Output.{capture_body, output}
 use Rattle.narc_run.specs.declared.job.EditWay.TheVariants.{Anew}
 use Rattle.narc_run.specs.Editing.{edited_record, rewritten_as}
-use Rattle.narc_laws.specs.RewrittenCaptures.{UneditedPacketsStay, KeepsWellFormed, RewrittenCapturesStay, rewriting}
+use Rattle.narc_laws.specs.RewrittenCaptures.{UneditedPacketsStay, RewrittenCapturesStay, rewriting}
 use Rattle.narc_laws.proofs.Numbers.{number_lt}
 use Rattle.narc_laws.proofs.ReadWritten.{header_written, record_written}
 
@@ -54,7 +56,7 @@ unedited p = ap (λ (b : EthBodyView). record p { body = b }) (unedited_eth p.bo
 abbrev moved : (place : ℕ) → Entry → Entry
 moved place e = record { head = record e.head { offset = place }; octets = e.octets }
 
-module _ (big : Bool) (es : Edits) (given : KeepsWellFormed es) where
+module _ (big : Bool) (es : Edits) (given : AreInRange es) where
   -- what is read of the record that is written at this place, and its answer
   abbrev entry_as : (place : ℕ) → Entry → Option Answer → Entry
   entry_as place e None = moved place e
@@ -83,7 +85,7 @@ module _ (big : Bool) (es : Edits) (given : KeepsWellFormed es) where
     }
 
     well : (p : PacketView) → IsEntryAnswer e (Some (Ok p)) → IsWellFormed (edited es p)
-    well p is = given p (well_formed_of p e.octets (is.1).right (omega (arith, r.frame, r.fits)))
+    well p is = edited_is_well_formed es p given (well_formed_of p e.octets (is.1).right (omega (arith, r.frame, r.fits)))
 
     is_record : (place : ℕ) (answer : Option Answer) → IsEntryAnswer e answer → IsRecord big place (entry_as place e answer) (rewritten_as es big e answer)
     is_record place None is = passed place
@@ -160,7 +162,7 @@ module _ (big : Bool) (es : Edits) (given : KeepsWellFormed es) where
 
 -- ---- the capture
 
-module _ (es : Edits) (s : List ℕ) (found again : Findings) (given : KeepsWellFormed es) (each : IsOctets s) (are : AreTold (capture s).entries found.records) where
+module _ (es : Edits) (s : List ℕ) (found again : Findings) (given : AreInRange es) (each : IsOctets s) (are : AreTold (capture s).entries found.records) where
   abbrev all_written : Option Header → List ℕ
   all_written header = capture_body (Rewrite es) header found.records ++ []
 
