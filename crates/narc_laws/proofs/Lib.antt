@@ -1,5 +1,7 @@
 pub mod Numbers
 pub mod Shown
 pub mod Texts
+pub mod WholeTexts
+pub mod BuiltTexts
 pub mod ReadWritten
 pub mod Rewritten

@@ -21,13 +21,13 @@ use Rattle.narc_pcap.proofs.WrittenRead.{header_read, head_read}
 use Rattle.narc_pcap.proofs.WrittenSizes.{header-size, head-size}
 use Rattle.narc_text.specs.CaptureText.{TextEntry, IsTextEntry}
 use Rattle.narc_build.specs.BuiltCapture.{built_header, built_record, built_capture}
-use Rattle.narc_build.specs.CaptureFront.{TextCapture, IsTextCapture, IsCaptureText}
+use Rattle.narc_build.specs.CaptureFront.{TextCapture, IsTextCapture, IsCaptureText, capture_text}
 use Rattle.narc_run.specs.Findings.{Findings, Told, IsTold, AreTold}
 use Rattle.narc_run.specs.Output.{is_packet}
 use Rattle.narc_run.proofs.Answered.{frame_answered}
 use Rattle.narc_run.proofs.BuiltShown.{built_is_shown}
 use Rattle.narc_run.proofs.FrameAnswers.{no_findings}
-use Rattle.narc_laws.specs.CaptureTexts.{IsShownText}
+use Rattle.narc_laws.specs.CaptureTexts.{IsShownFor, IsShownText}
 
 -- ---- octets
 
@@ -138,10 +138,9 @@ made_is c valid =
       ends = refl;
     })
 
-pub shown_of_text : (t : List ℕ) → IsCaptureText t → IsShownText t
-shown_of_text t text =
-    let c = text.0 in
-    let valid = text.1 in
+-- `show` writes the text for what is made of it
+pub shown_for : (t : List ℕ) (c : TextCapture) → IsTextCapture c → t ≡ capture_text c → IsShownFor (built_capture c) t
+shown_for t c valid is =
     let view = made_is c valid in
     let told = all_at 24 c.entries in
     let found : Findings = record no_findings { records = told } in
@@ -149,7 +148,6 @@ shown_of_text t text =
       same = ap (λ (v : CaptureView). v.entries) (sym view);
       right = all_told 24 c.entries valid.entries;
     } in (
-      built_capture c,
       IsOctets-append (header_octets (built_header c)) (flat_map built_record c.entries) (header_each c) (records_each c.entries valid.entries),
       record {
         found = found;
@@ -160,7 +158,10 @@ shown_of_text t text =
             ends = ap (λ (v : CaptureView). v.end) view;
             packets = all_packets 24 c.entries;
           },
-          built_is_shown c found valid are ∙ sym text.2,
+          built_is_shown c found valid are ∙ sym is,
         );
       },
     )
+
+pub shown_of_text : (t : List ℕ) → IsCaptureText t → IsShownText t
+shown_of_text t text = (built_capture text.0, shown_for t text.0 text.1 text.2)

@@ -20,7 +20,7 @@ use Rattle.narc_run.specs.Job.{Capture, Show}
 use Rattle.narc_run.specs.Findings.{Findings, Told, IsTold, AreTold, IsEntryAnswer}
 use Rattle.narc_run.specs.Output.{header_line, capture_body, is_packet, is_refused, is_snap, last_line, output, show_line}
 use Rattle.narc_run.proofs.BuiltShown.{IsShownAs}
-use Rattle.narc_laws.specs.CaptureTexts.{IsOfPackets, IsShownText}
+use Rattle.narc_laws.specs.CaptureTexts.{IsOfPackets, IsShownFor, IsShownText}
 use Rattle.narc_laws.proofs.Numbers.{number_lt, snap_lt}
 
 -- a record with a packet, as an entry of a text
@@ -112,5 +112,7 @@ module _ (s : List ℕ) (each : IsOctets s) (found : Findings) (are : AreTold (c
 
 pub text_of_shown : (t : List ℕ) → IsShownText t → IsCaptureText t
 text_of_shown t shown =
-    let found = shown.2 in
-    subst IsCaptureText (found.holds).1 (text_with shown.0 shown.1 found.found found.are (found.holds).0 (capture shown.0).header refl)
+    let s = shown.0 in
+    let is : IsShownFor s t = shown.1 in
+    let found = is.1 in
+    subst IsCaptureText (found.holds).1 (text_with s is.0 found.found found.are (found.holds).0 (capture s).header refl)

@@ -1,11 +1,17 @@
 //! What `show`, `build` and `rewrite` are to each other, and to what they read.
-ghost use Rattle.narc_laws.specs.CaptureTexts.{CaptureTextsAreShown};
+ghost use Rattle.narc_laws.specs.CaptureTexts.{CaptureTextsAreShown, ShownTextsAreBuilt};
 ghost use Rattle.narc_laws.specs.ReadCaptures.{ReadHeadersAreWritten, ReadRecordsAreWritten};
 ghost use Rattle.narc_laws.specs.RewrittenCaptures.{RewrittenCapturesStay, UneditedPacketsStay};
 
-/// A text is one of a capture, which `build` accepts, exactly where `show` writes it for a whole capture of packets.
+/// A text is one of a capture exactly where `show` writes it for a whole capture of packets.
 pub fn capture_texts_are_shown()
     ensures { CaptureTextsAreShown }
+{}
+
+/// By what `run` promises, `build` is done exactly with the texts that `show` writes for whole captures of packets, and then it
+/// wrote such a capture.
+pub fn shown_texts_are_built()
+    ensures { ShownTextsAreBuilt }
 {}
 
 /// What is read as the header of a capture or of a record is what is written of it. So the header of a capture that `rewrite` passes on, and
