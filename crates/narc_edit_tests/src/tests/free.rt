@@ -1,5 +1,5 @@
 //! Each name of the table, on frames that are full of free choices. The expected sums were computed from nothing, outside.
-ghost use Rattle.std.specs.Prelude.{◌+◌, ◌≤◌, length};
+ghost use Rattle.std.specs.Prelude.{◌≡◌, ◌+◌, ◌≤◌, length};
 
 use super::{FREE, patched};
 use narc_samples::ARP_REQUEST;
@@ -27,12 +27,20 @@ const FREE_SEGMENT: [u8; 66] = [
     0xaa, 0xaa, 0xaa, // padding
 ];
 
+/// Writes a field into its place.
+fn put(octets: &mut [u8], at: usize, field: &[u8])
+    requires { at + length field.now ≤ length octets.old }
+    ensures { length octets.new ≡ length octets.old }
+{
+    octets[at..at + field.len()].copy_from_slice(field);
+}
+
 /// The ARP packet becomes by the word what it is with these octets from a place on.
 fn arp_becomes(alloc: Global, word: &str, at: usize, field: &[u8]) -> Result<bool, Fail>
     requires { at + length field.now ≤ 60 }
 {
     let mut edited = ARP_REQUEST;
-    edited[at..at + field.len()].copy_from_slice(field);
+    put(&mut edited, at, field);
     Ok(patched(alloc, ARP_REQUEST, &[word])? == edited)
 }
 
@@ -48,9 +56,9 @@ fn datagram_becomes(
     requires { at + length field.now ≤ 56 }
 {
     let mut edited = FREE;
-    edited[at..at + field.len()].copy_from_slice(field);
-    edited[24..26].copy_from_slice(&header);
-    edited[44..46].copy_from_slice(&datagram);
+    put(&mut edited, at, field);
+    put(&mut edited, 24, &header);
+    put(&mut edited, 44, &datagram);
     Ok(patched(alloc, FREE, &[word])? == edited)
 }
 
@@ -66,9 +74,9 @@ fn segment_becomes(
     requires { at + length field.now ≤ 66 }
 {
     let mut edited = FREE_SEGMENT;
-    edited[at..at + field.len()].copy_from_slice(field);
-    edited[24..26].copy_from_slice(&header);
-    edited[54..56].copy_from_slice(&segment);
+    put(&mut edited, at, field);
+    put(&mut edited, 24, &header);
+    put(&mut edited, 54, &segment);
     Ok(patched(alloc, FREE_SEGMENT, &[word])? == edited)
 }
 
