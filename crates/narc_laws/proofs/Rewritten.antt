@@ -29,8 +29,7 @@ use Rattle.narc_edit.proofs.EditedWellFormed.{edited_is_well_formed}
 use Rattle.narc_run.specs.Job.{Rewrite}
 use Rattle.narc_run.specs.Findings.{Findings, Told, IsTold, AreTold, IsEntryAnswer}
 use Rattle.narc_run.specs.Output.{capture_body, output}
-use Rattle.narc_run.specs.declared.job.EditWay.TheVariants.{Anew}
-use Rattle.narc_run.specs.Editing.{edited_record, rewritten_as}
+use Rattle.narc_run.specs.Editing.{rewritten_as}
 use Rattle.narc_laws.specs.RewrittenCaptures.{UneditedPacketsStay, RewrittenCapturesStay, rewriting}
 use Rattle.narc_laws.proofs.Numbers.{number_lt}
 use Rattle.narc_laws.proofs.ReadWritten.{header_written, record_written}
@@ -51,6 +50,9 @@ pub unedited : UneditedPacketsStay
 unedited p = ap (λ (b : EthBodyView). record p { body = b }) (unedited_eth p.body)
 
 -- ---- a record that is written
+
+abbrev rewritten : Edits → (big : Bool) → Told → List ℕ
+rewritten es big t = rewritten_as es big t.entry t.answer
 
 -- the same record at another place
 abbrev moved : (place : ℕ) → Entry → Entry
@@ -131,12 +133,12 @@ module _ (big : Bool) (es : Edits) (given : AreInRange es) where
   entries_at place (t ∷ told) = entry_as place t.entry t.answer ∷ entries_at (place + size_of (entry_as place t.entry t.answer)) told
 
   are_records : (place from : ℕ) (told : List Told) (octets rest : List ℕ) → AreRecords big from (map (λ t. t.entry) told) octets rest → IsOctets octets
-      → AllByRecursion IsTold told → AreRecords big place (entries_at place told) (flat_map (edited_record Anew es big) told) []
+      → AllByRecursion IsTold told → AreRecords big place (entries_at place told) (flat_map (rewritten es big) told) []
   are_records place from [] octets rest r each is = refl
   are_records place from (t ∷ told) octets rest r each is =
       let parts : IsOctets (r.0 ++ r.1) = subst IsOctets r.2 each in (
-        edited_record Anew es big t,
-        flat_map (edited_record Anew es big) told,
+        rewritten es big t,
+        flat_map (rewritten es big) told,
         refl,
         is_record from t.entry r.0 r.3 (IsOctets-front r.0 r.1 parts) place t.answer is.0,
         are_records (place + size_of (entry_as place t.entry t.answer)) (from + size_of t.entry) told r.1 rest r.4 (IsOctets-back r.0 r.1 parts) is.1,
@@ -144,7 +146,7 @@ module _ (big : Bool) (es : Edits) (given : AreInRange es) where
 
   written_again : (place from : ℕ) (told again : List Told) (octets rest : List ℕ) → AreRecords big from (map (λ t. t.entry) told) octets rest → IsOctets octets
       → AllByRecursion IsTold told → map (λ t. t.entry) again ≡ entries_at place told → AllByRecursion IsTold again
-      → flat_map (edited_record Anew no_edits big) again ≡ flat_map (edited_record Anew es big) told
+      → flat_map (rewritten no_edits big) again ≡ flat_map (rewritten es big) told
   written_again place from [] [] octets rest r each is same more = refl
   written_again place from [] (u ∷ again) octets rest r each is same more = cc
   written_again place from (t ∷ told) [] octets rest r each is same more = cc
@@ -155,10 +157,10 @@ module _ (big : Bool) (es : Edits) (given : AreInRange es) where
       let later : map (λ (t : Told). t.entry) again ≡ entries_at (place + size_of new) told = cc in
       let answer : u.answer ≡ answer_as t.answer =
       answered from t.entry r.0 r.3 (IsOctets-front r.0 r.1 parts) place t.answer u.answer is.0 (subst (λ (x : Entry). IsEntryAnswer x u.answer) first more.0) in
-      let line : edited_record Anew no_edits big u ≡ edited_record Anew es big t =
+      let line : rewritten no_edits big u ≡ rewritten es big t =
       ap (λ (x : Entry). rewritten_as no_edits big x u.answer) first ∙ ap (λ (a : Option Answer). rewritten_as no_edits big new a) answer ∙ same_again place t.entry t.answer in
-      ap (λ l. l ++ flat_map (edited_record Anew no_edits big) again) line
-      ∙ ap (λ l. edited_record Anew es big t ++ l) (written_again (place + size_of new) (from + size_of t.entry) told again r.1 rest r.4 (IsOctets-back r.0 r.1 parts) is.1 later more.1)
+      ap (λ l. l ++ flat_map (rewritten no_edits big) again) line
+      ∙ ap (λ l. rewritten es big t ++ l) (written_again (place + size_of new) (from + size_of t.entry) told again r.1 rest r.4 (IsOctets-back r.0 r.1 parts) is.1 later more.1)
 
 -- ---- the capture
 
@@ -178,7 +180,7 @@ module _ (es : Edits) (s : List ℕ) (found again : Findings) (given : AreInRang
       let cut : IsCut s h entries (capture s).end = (captures_cut s h entries (capture s).end).0 view in
       let parts : IsOctets (cut.header ++ cut.behind) = subst IsOctets cut.layout each in
       let behind_each = IsOctets-back cut.header cut.behind parts in
-      let lines = flat_map (edited_record Anew es h.big) told in
+      let lines = flat_map (rewritten es h.big) told in
       let header = header_written cut.header h (IsOctets-front cut.header cut.behind parts) cut.size cut.reads in
       let new : capture (all_written (Some h)) ≡ headed h (record { entries = entries_at h.big es given 24 told; end = Clean }) =
       (captures_cut (all_written (Some h)) h (entries_at h.big es given 24 told) Clean).1 (record {
