@@ -1,0 +1,4 @@
+pub mod Verdict
+pub mod Seen
+pub mod Places
+pub mod Edits
