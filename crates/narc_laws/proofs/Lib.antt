@@ -5,3 +5,4 @@ pub mod WholeTexts
 pub mod BuiltTexts
 pub mod ReadWritten
 pub mod Rewritten
+pub mod PassedRecords

@@ -1,3 +1,4 @@
 pub mod CaptureTexts
+pub mod PassedRecords
 pub mod ReadCaptures
 pub mod RewrittenCaptures

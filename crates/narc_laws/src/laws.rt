@@ -1,5 +1,6 @@
 //! What `show`, `build` and `rewrite` are to each other, and to what they read.
 ghost use Rattle.narc_laws.specs.CaptureTexts.{CaptureTextsAreShown, ShownTextsAreBuilt};
+ghost use Rattle.narc_laws.specs.PassedRecords.{PassedRecordsStay};
 ghost use Rattle.narc_laws.specs.ReadCaptures.{ReadHeadersAreWritten, ReadRecordsAreWritten};
 ghost use Rattle.narc_laws.specs.RewrittenCaptures.{RewrittenCapturesStay, UneditedPacketsStay};
 
@@ -14,11 +15,16 @@ pub fn shown_texts_are_built()
     ensures { ShownTextsAreBuilt }
 {}
 
-/// What is read as the header of a capture or of a record is what is written of it. So the header of a capture that `rewrite` passes on, and
-/// each record without a packet, are the octets that came.
+/// What is read as the header of a capture or of a record is what is written of it. So `rewrite` and `patch` pass on the header of a capture
+/// as the octets that came.
 pub fn read_captures_are_written()
     ensures headers { ReadHeadersAreWritten }
     ensures records { ReadRecordsAreWritten }
+{}
+
+/// A record that is refused or snapped is written by `rewrite` and `patch` as the octets that came, whatever is assigned.
+pub fn passed_records_stay()
+    ensures { PassedRecordsStay }
 {}
 
 /// Without assignments each packet stays, and `rewrite` without assignments of what `rewrite` wrote writes the same octets.
