@@ -1,4 +1,5 @@
 pub mod Numbers
+pub mod BuiltShown
 pub mod Shown
 pub mod Texts
 pub mod WholeTexts

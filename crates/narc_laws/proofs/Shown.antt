@@ -1,5 +1,5 @@
 -- The text of a capture is shown for what is made of it.
-use Rattle.std.proofs.Common.{◌≡◌, ℕ, ◌+◌, true, List, [], ◌∷◌, ◌++◌, length, map, Some, Ok, refl, sym, ap, ◌∙◌, subst, arith, length-append}
+use Rattle.std.proofs.Common.{◌≡◌, ℕ, ◌+◌, true, List, [], ◌∷◌, ◌++◌, length, map, Some, Ok, refl, sym, ap, ◌∙◌, subst, arith}
 use Rattle.std.specs.Prelude.{IsTrue, IsSome, flat_map}
 use Rattle.std.specs.List.{AllByRecursion}
 use Rattle.std.proofs.lemmas.Bool.{le-ltb}
@@ -12,22 +12,18 @@ use Rattle.narc_packet.specs.WellFormed.{IsWellFormed}
 use Rattle.narc_packet.specs.Canonical.{canonical_frame}
 use Rattle.narc_stack.proofs.Canonical.{canonical_is_frame}
 use Rattle.narc_stack.proofs.WellFormed.{well_formed_admitted, canonical_small}
-use Rattle.narc_pcap.specs.declared.record.End.TheVariants.{Clean}
-use Rattle.narc_pcap.specs.Capture.{CaptureView, capture, headed}
-use Rattle.narc_pcap.specs.Laws.{AreRecords, IsRecord, size_of}
+use Rattle.narc_pcap.specs.Capture.{CaptureView, capture}
+use Rattle.narc_pcap.specs.Laws.{size_of}
 use Rattle.narc_pcap.specs.Written.{header_octets, head_octets, magic_of, number_octets}
-use Rattle.narc_pcap.proofs.CaptureCuts.{captures_cut}
-use Rattle.narc_pcap.proofs.WrittenRead.{header_read, head_read}
-use Rattle.narc_pcap.proofs.WrittenSizes.{header-size, head-size}
 use Rattle.narc_text.specs.CaptureText.{TextEntry, IsTextEntry}
 use Rattle.narc_build.specs.BuiltCapture.{built_header, built_record, built_capture}
 use Rattle.narc_build.specs.CaptureFront.{TextCapture, IsTextCapture, IsCaptureText, capture_text}
 use Rattle.narc_run.specs.Findings.{Findings, Told, IsTold, AreTold}
 use Rattle.narc_run.specs.Output.{is_packet}
 use Rattle.narc_run.proofs.Answered.{frame_answered}
-use Rattle.narc_run.proofs.BuiltShown.{built_is_shown}
 use Rattle.narc_run.proofs.FrameAnswers.{no_findings}
 use Rattle.narc_laws.specs.CaptureTexts.{IsShownFor, IsShownText}
+use Rattle.narc_laws.proofs.BuiltShown.{entry_at, entries_at, made_is, built_is_shown}
 
 -- ---- octets
 
@@ -77,66 +73,27 @@ only p h =
 
 -- the record of an entry at this place, with its packet
 abbrev told_at : (place : ℕ) → TextEntry → Told
-told_at place e =
-    let frame = canonical_frame e.packet in
-    record {
-      entry = record { head = record { offset = place; sec = e.sec; sub = e.sub; captured = length frame; original = length frame }; octets = frame };
-      answer = Some (Ok e.packet);
-    }
+told_at place e = record { entry = entry_at place e; answer = Some (Ok e.packet) }
 
 abbrev all_at : (place : ℕ) → List TextEntry → List Told
 all_at place [] = []
-all_at place (e ∷ entries) = told_at place e ∷ all_at (place + size_of (told_at place e).entry) entries
+all_at place (e ∷ entries) = told_at place e ∷ all_at (place + size_of (entry_at place e)) entries
+
+-- their records are those that are made
+all_entries : (place : ℕ) (entries : List TextEntry) → map (λ (t : Told). t.entry) (all_at place entries) ≡ entries_at place entries
+all_entries place [] = refl
+all_entries place (e ∷ entries) = ap (λ l. entry_at place e ∷ l) (all_entries (place + size_of (entry_at place e)) entries)
 
 all_told : (place : ℕ) (entries : List TextEntry) → AllByRecursion IsTextEntry entries → AllByRecursion IsTold (all_at place entries)
 all_told place [] valid = tt
 all_told place (e ∷ entries) valid =
     let n = length (canonical_frame e.packet) in
     let e_valid = valid.0 in
-    ((le-ltb n n (omega arith), only e.packet e_valid.packet), all_told (place + size_of (told_at place e).entry) entries valid.1)
+    ((le-ltb n n (omega arith), only e.packet e_valid.packet), all_told (place + size_of (entry_at place e)) entries valid.1)
 
 all_packets : (place : ℕ) (entries : List TextEntry) → AllByRecursion (λ t. IsTrue (is_packet t)) (all_at place entries)
 all_packets place [] = tt
-all_packets place (e ∷ entries) = (refl, all_packets (place + size_of (told_at place e).entry) entries)
-
--- ---- the capture that is made
-
-is_record : (place : ℕ) (e : TextEntry) → IsTextEntry e → IsRecord true place (told_at place e).entry (built_record e)
-is_record place e valid =
-    let n = length (canonical_frame e.packet) in
-    let small = canonical_small e.packet valid.packet in
-    record {
-      header = head_octets true e.sec e.sub n n;
-      layout = refl;
-      size = head-size true e.sec e.sub n n;
-      reads = head_read true (((told_at place e).entry).head) (record { sec = valid.sec; sub = valid.sub; captured = omega (arith, small); original = omega (arith, small) });
-      frame = refl;
-      fits = omega (arith, small);
-    }
-
-are_records : (place : ℕ) (entries : List TextEntry) → AllByRecursion IsTextEntry entries
-    → AreRecords true place (map (λ t. t.entry) (all_at place entries)) (flat_map built_record entries) []
-are_records place [] valid = refl
-are_records place (e ∷ entries) valid =
-    (built_record e, flat_map built_record entries, refl, is_record place e valid.0, are_records (place + size_of (told_at place e).entry) entries valid.1)
-
-abbrev view_of : TextCapture → CaptureView
-view_of c = headed (built_header c) (record { entries = map (λ (t : Told). t.entry) (all_at 24 c.entries); end = Clean })
-
-made_is : (c : TextCapture) → IsTextCapture c → capture (built_capture c) ≡ view_of c
-made_is c valid =
-    let h = built_header c in
-    (captures_cut (built_capture c) h (map (λ (t : Told). t.entry) (all_at 24 c.entries)) Clean).1 (record {
-      header = header_octets h;
-      behind = flat_map built_record c.entries;
-      rest = [];
-      layout = refl;
-      size = header-size h;
-      reads = header_read h (record { zone = omega arith; accuracy = omega arith; snap = valid.snap });
-      records = are_records 24 c.entries valid.entries;
-      stops = λ e first later split is. absurd (omega (arith, ap length split, length-append first later, ap length is.layout, length-append is.header e.octets, is.size));
-      ends = refl;
-    })
+all_packets place (e ∷ entries) = (refl, all_packets (place + size_of (entry_at place e)) entries)
 
 -- `show` writes the text for what is made of it
 pub shown_for : (t : List ℕ) (c : TextCapture) → IsTextCapture c → t ≡ capture_text c → IsShownFor (built_capture c) t
@@ -145,7 +102,7 @@ shown_for t c valid is =
     let told = all_at 24 c.entries in
     let found : Findings = record no_findings { records = told } in
     let are : AreTold (capture (built_capture c)).entries told = record {
-      same = ap (λ (v : CaptureView). v.entries) (sym view);
+      same = all_entries 24 c.entries ∙ ap (λ (v : CaptureView). v.entries) (sym view);
       right = all_told 24 c.entries valid.entries;
     } in (
       IsOctets-append (header_octets (built_header c)) (flat_map built_record c.entries) (header_each c) (records_each c.entries valid.entries),

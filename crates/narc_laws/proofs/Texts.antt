@@ -19,8 +19,8 @@ use Rattle.narc_build.specs.CaptureFront.{TextCapture, IsCaptureText}
 use Rattle.narc_run.specs.Job.{Capture, Show}
 use Rattle.narc_run.specs.Findings.{Findings, Told, IsTold, AreTold, IsEntryAnswer}
 use Rattle.narc_run.specs.Output.{header_line, capture_body, is_packet, is_refused, is_snap, last_line, output, show_line}
-use Rattle.narc_run.proofs.BuiltShown.{IsShownAs}
 use Rattle.narc_laws.specs.CaptureTexts.{IsOfPackets, IsShownFor, IsShownText}
+use Rattle.narc_laws.proofs.BuiltShown.{IsShownAs}
 use Rattle.narc_laws.proofs.Numbers.{number_lt, snap_lt}
 
 -- a record with a packet, as an entry of a text

@@ -6,9 +6,10 @@ use Rattle.narc_world.specs.Outside.{Rose}
 use Rattle.narc_pcap.specs.declared.limit.TheConstants.{CAPTURE_LIMIT}
 use Rattle.narc_pcap.specs.declared.record.End.TheVariants.{Clean}
 use Rattle.narc_pcap.specs.Capture.{capture}
-use Rattle.narc_build.specs.CaptureFront.{IsCaptureText}
+use Rattle.narc_build.specs.BuiltCapture.{built_capture}
+use Rattle.narc_build.specs.CaptureFront.{TextCapture, IsTextCapture, IsCaptureText, capture_text}
 use Rattle.narc_run.specs.Job.{Capture, Show, Build}
-use Rattle.narc_run.specs.Findings.{Findings, Found}
+use Rattle.narc_run.specs.Findings.{Findings, Found, AreFindings}
 use Rattle.narc_run.specs.Output.{is_packet, output}
 use Rattle.narc_run.specs.Run.{Run, Wrote, IsRightRun}
 
@@ -39,3 +40,8 @@ pub record IsBuiltWhereShown (r : Run) (text : List ℕ) : Type 0 where
 -- What is promised of a run makes a run of `build` one that is done exactly where `show` writes its input.
 abbrev pub ShownTextsAreBuilt : Type 0
 ShownTextsAreBuilt = (r : Run) → (text rest : List ℕ) → IsRightRun r text rest → r.asked ≡ Some Build → IsBuiltWhereShown r text
+
+-- `show` of what is made of a text writes the text again.
+abbrev pub BuiltIsShown : Type 0
+BuiltIsShown = (c : TextCapture) (found : Findings) → IsTextCapture c → AreFindings (Capture Show) (built_capture c) found
+    → output (Capture Show) (built_capture c) found ≡ capture_text c

@@ -1,8 +1,13 @@
 //! What `show`, `build` and `rewrite` are to each other, and to what they read.
-ghost use Rattle.narc_laws.specs.CaptureTexts.{CaptureTextsAreShown, ShownTextsAreBuilt};
+ghost use Rattle.narc_laws.specs.CaptureTexts.{BuiltIsShown, CaptureTextsAreShown, ShownTextsAreBuilt};
 ghost use Rattle.narc_laws.specs.PassedRecords.{PassedRecordsStay};
 ghost use Rattle.narc_laws.specs.ReadCaptures.{ReadHeadersAreWritten, ReadRecordsAreWritten};
 ghost use Rattle.narc_laws.specs.RewrittenCaptures.{RewrittenCapturesStay, UneditedPacketsStay};
+
+/// `show` of what is made of a text writes the text again.
+pub fn built_is_shown()
+    ensures { BuiltIsShown }
+{}
 
 /// A text is one of a capture exactly where `show` writes it for a whole capture of packets.
 pub fn capture_texts_are_shown()

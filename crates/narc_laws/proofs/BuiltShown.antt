@@ -19,19 +19,19 @@ use Rattle.narc_text.specs.CaptureText.{TextEntry, IsTextEntry, entry_line, end_
 use Rattle.narc_build.specs.BuiltCapture.{built_header, built_record, built_capture}
 use Rattle.narc_build.specs.CaptureFront.{TextCapture, IsTextCapture}
 use Rattle.narc_run.specs.Job.{Show}
-use Rattle.narc_run.specs.BuildLaws.{BuiltIsShown}
 use Rattle.narc_run.specs.Findings.{Told, IsTold, AreTold, IsEntryAnswer}
 use Rattle.narc_run.specs.Output.{header_line, capture_body, is_packet, is_refused, is_snap, last_line, show_line}
+use Rattle.narc_laws.specs.CaptureTexts.{BuiltIsShown}
 
 -- ---- the capture that is made
 
 -- the record of an entry at this place
-abbrev entry_at : (place : ℕ) → TextEntry → Entry
+abbrev pub entry_at : (place : ℕ) → TextEntry → Entry
 entry_at place e =
     let frame = canonical_frame e.packet in
     record { head = record { offset = place; sec = e.sec; sub = e.sub; captured = length frame; original = length frame }; octets = frame }
 
-abbrev entries_at : (place : ℕ) → List TextEntry → List Entry
+abbrev pub entries_at : (place : ℕ) → List TextEntry → List Entry
 entries_at place [] = []
 entries_at place (e ∷ entries) = entry_at place e ∷ entries_at (place + size_of (entry_at place e)) entries
 
@@ -53,7 +53,7 @@ are_records place [] valid = refl
 are_records place (e ∷ entries) valid =
     (built_record e, flat_map built_record entries, refl, is_record place e valid.0, are_records (place + size_of (entry_at place e)) entries valid.1)
 
-made_is : (c : TextCapture) → IsTextCapture c → capture (built_capture c) ≡ headed (built_header c) (record { entries = entries_at 24 c.entries; end = Clean })
+pub made_is : (c : TextCapture) → IsTextCapture c → capture (built_capture c) ≡ headed (built_header c) (record { entries = entries_at 24 c.entries; end = Clean })
 made_is c valid =
     let h = built_header c in
     (captures_cut (built_capture c) h (entries_at 24 c.entries) Clean).1 (record {

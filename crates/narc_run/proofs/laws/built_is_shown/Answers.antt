@@ -1,5 +1,0 @@
-use Rattle.narc_run.proofs.BuiltShown.{built_is_shown}
-use Rattle.narc_run.proofs.laws.built_is_shown.Goals as goal
-
-pub returns : goal.returns
-returns c = built_is_shown
