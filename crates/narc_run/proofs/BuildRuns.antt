@@ -15,7 +15,7 @@ use Rattle.narc_run.specs.Verdict.{Verdict, verdict_of, ending_verdict}
 use Rattle.narc_run.specs.Run.{AreCounted}
 use Rattle.narc_run.specs.StreamRun.{Takes, Overtakes, StreamRun, Judged, Broken, Overrun, Stopped, StoppedBehind}
 use Rattle.narc_run.proofs.FrameAnswers.{no_findings}
-use Rattle.narc_run.proofs.StreamRuns.{IsSteady}
+use Rattle.narc_run.proofs.SteadyJobs.{IsSteady}
 
 abbrev by : (whole : Bool) → (place : ℕ) → Verdict
 by whole place = ending_verdict (if whole then answer.Done else answer.Bad place)

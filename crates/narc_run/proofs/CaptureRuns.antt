@@ -9,7 +9,7 @@ use Rattle.narc_run.specs.Job.{CaptureJob, Capture, Show, Check, Edit}
 use Rattle.narc_run.specs.Findings.{Told, AreTold}
 use Rattle.narc_run.specs.Output.{is_refused}
 use Rattle.narc_run.specs.Verdict.{end_verdict, records_status}
-use Rattle.narc_run.proofs.StreamRuns.{IsSteady}
+use Rattle.narc_run.proofs.SteadyJobs.{IsSteady}
 
 -- the statuses of an end
 record IsEndStatus (e : End) (status : ℕ) : Type 0 where

@@ -16,7 +16,8 @@ use Rattle.narc_run.specs.StreamRun.{Takes, StreamRun, Judged, Stopped, run_of}
 use Rattle.narc_run.specs.UnreadRun.{UnreadRun, IsToldOrCut}
 use Rattle.narc_run.proofs.FrameAnswers.{no_findings}
 use Rattle.narc_run.proofs.RightJobs.{without_memory}
-use Rattle.narc_run.proofs.StreamRuns.{IsSteady, right_stream}
+use Rattle.narc_run.proofs.SteadyJobs.{IsSteady}
+use Rattle.narc_run.proofs.StreamRuns.{right_stream}
 
 -- a job that reads nothing wrote its line, or a front of it
 pub record Writes (line : List ℕ) (before after : Option (List ℕ)) (sink_before sink_after : ℕ) (o : Outcome) : Type 0 where

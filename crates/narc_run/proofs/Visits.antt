@@ -28,7 +28,8 @@ use Rattle.narc_run.specs.Visiting.{HasRoom, Closes, Finishes}
 use Rattle.narc_run.specs.StreamRun.{IsShown, EndsStream, StreamRun, Stopped}
 use Rattle.narc_run.proofs.Walks.{Call, Walks, ReadSoFar, entries_of, cost, cost-append}
 use Rattle.narc_run.proofs.Answered.{all_answered, AreTold-append}
-use Rattle.narc_run.proofs.CaptureSoFar.{found_of, WalkEnds, judged, stopped_last, broken, stopped_short, overrun, stopped_behind, headless_judged, headless_stopped}
+use Rattle.narc_run.proofs.CaptureSoFar.{found_of, WalkEnds, judged, stopped_last, broken, stopped_short, overrun, stopped_behind}
+use Rattle.narc_run.proofs.Headless.{headless_judged, headless_stopped}
 
 -- What was read of a capture was seen, and what is printed is its body so far.
 pub record VisitsSoFar (j : CaptureJob) (Saw : Option Header → List Told → Type 0) (reader : Reading) (page : List ℕ) (left left_now held held_now : Option (List ℕ)) (steps steps_now : ℕ) : Type 0 where

@@ -13,7 +13,8 @@ use Rattle.narc_run.specs.Verdict.{verdict_of}
 use Rattle.narc_run.specs.Visiting.{Closes, told_as}
 use Rattle.narc_text.proofs.Printings.{Appends-nil}
 use Rattle.narc_run.proofs.Walks.{Call, read_record}
-use Rattle.narc_run.proofs.CaptureSoFar.{read_start, frame_fits, headless_broken}
+use Rattle.narc_run.proofs.CaptureSoFar.{read_start, frame_fits}
+use Rattle.narc_run.proofs.Headless.{headless_broken}
 use Rattle.narc_run.proofs.Visits.{read_kept, headless, closed, stopped_by, front_stopped, cut_page, cut_whole, body_more, passes_on, passes_same, has_room}
 use Rattle.narc_run.proofs.walk.walk.Goals as goal
 
