@@ -27,6 +27,9 @@ BUILT = octets_of("texts/worked.build.pcap")
 # The capture with the frame of its one packet written anew, which is that of the text.
 REWRITTEN = BUILT + CAPTURE[82:]
 
+# The capture whose one packet, an ARP request, is made a reply in place.
+PATCHED = CAPTURE[:61] + b"\2" + CAPTURE[62:]
+
 # A run of a job: its words, the octets that it reads, or none where it reads nothing, its whole output, and its status.
 Job = namedtuple("Job", "words octets output status")
 
@@ -35,6 +38,7 @@ JOBS = [
     Job(["show"], CAPTURE, LINES, 0),
     Job(["check"], CAPTURE, octets_of("captures/worked.check.txt"), 1),
     Job(["rewrite"], CAPTURE, REWRITTEN, 0),
+    Job(["patch", "arp.op=2"], CAPTURE, PATCHED, 0),
     Job(["build"], TEXT, BUILT, 0),
     Job(["trial", "0", "5"], None, octets_of("trials/from_0.txt"), 0),
     Job(["version"], None, octets_of("trials/version.txt"), 0),

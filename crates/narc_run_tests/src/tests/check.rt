@@ -1,5 +1,6 @@
 //! Captures counted.
-use crate::tests::{CAPTURE, CAPTURE_LITTLE, World, end_of, expect_end, zeros};
+use crate::tests::{expect_end, zeros};
+use narc_doubles::{CAPTURE, CAPTURE_LITTLE, World, end_of};
 use std::alloc::{AllocError, Global};
 use std::test::Fail;
 
@@ -54,38 +55,6 @@ fn what_has_no_header_has_no_records(rt: HostRuntime) -> Result<(), Fail> {
     expect_end(&rt, &told, 3, 0, b"packets 0\nsnapped 0\ntorn 0\n");
     let told = end_of(rt.alloc(), &["check"], World::of(&CAPTURE[..24]))?;
     expect_end(&rt, &told, 0, 0, b"packets 0\nsnapped 0\nend 0\n");
-    Ok(())
-}
-
-#[test]
-fn each_pull_that_fails_leaves_nothing_written(rt: HostRuntime) -> Result<(), Fail> {
-    for pull in 1..136 {
-        let world = World {
-            pieces: &[1; 135],
-            failing_pulls: &[pull],
-            ..World::of(&CAPTURE)
-        };
-        expect_end(
-            &rt,
-            &end_of(rt.alloc(), &["check"], world)?,
-            5,
-            pull - 1,
-            b"",
-        );
-    }
-    Ok(())
-}
-
-#[test]
-fn a_sink_with_too_little_room_has_a_front_of_the_counts(rt: HostRuntime) -> Result<(), Fail> {
-    for capacity in 0..COUNTS.len() {
-        let world = World {
-            capacity,
-            ..World::of(&CAPTURE)
-        };
-        let told = end_of(rt.alloc(), &["check"], world)?;
-        expect_end(&rt, &told, 6, 0, &COUNTS[..capacity]);
-    }
     Ok(())
 }
 

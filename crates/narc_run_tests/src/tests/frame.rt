@@ -1,5 +1,6 @@
 //! Single frames.
-use crate::tests::{ARP_LINE, OTHER_LINE, World, end_of, expect_end, zeros};
+use crate::tests::{ARP_LINE, OTHER_LINE, expect_end, zeros};
+use narc_doubles::{World, end_of};
 use narc_samples::{ARP_REQUEST, DATAGRAM, UNREAD_TYPE};
 use std::test::Fail;
 

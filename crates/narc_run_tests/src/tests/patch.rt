@@ -1,5 +1,6 @@
 //! Captures whose packets are edited in place.
-use crate::tests::{CAPTURE_LITTLE, World, end_of, expect_end};
+use crate::tests::expect_end;
+use narc_doubles::{CAPTURE_LITTLE, World, end_of};
 use std::test::Fail;
 
 /// A capture of a datagram with two octets of padding, one whose checksum was not computed, one whose header has a wrong
@@ -43,18 +44,6 @@ const PATCHED: &[u8; 236] =
 \x02\x00\x00\x00\x00\xaa\x02\x00\x00\x00\x00\xbb\x08\x00\
 \x45\x00\x00\x1c\x00\x00";
 
-/// What is written of so many octets of the capture: its header, and each record that is whole.
-fn written_of(count: usize) -> &'static [u8] {
-    match count {
-        0..=23 => &[],
-        24..=83 => &PATCHED[..24],
-        84..=141 => &PATCHED[..84],
-        142..=199 => &PATCHED[..142],
-        200..=235 => &PATCHED[..200],
-        _ => PATCHED,
-    }
-}
-
 #[test]
 fn packets_are_edited_and_every_other_record_stays(rt: HostRuntime) -> Result<(), Fail> {
     for pieces in [&[].as_slice(), &[1; 236].as_slice()] {
@@ -92,55 +81,10 @@ fn the_byte_order_of_a_capture_stays(rt: HostRuntime) -> Result<(), Fail> {
 }
 
 #[test]
-fn a_torn_capture_has_the_records_before(rt: HostRuntime) -> Result<(), Fail> {
-    for count in 0..236 {
-        let at = match count {
-            0..=23 => 0,
-            25..=83 => 24,
-            85..=141 => 84,
-            143..=199 => 142,
-            201..=235 => 200,
-            _ => continue,
-        };
-        let told = end_of(rt.alloc(), &WORDS, World::of(&CAME[..count]))?;
-        expect_end(&rt, &told, 3, at, written_of(count));
-    }
-    Ok(())
-}
-
-#[test]
 fn a_bad_record_ends_the_capture_at_its_place(rt: HostRuntime) -> Result<(), Fail> {
     let mut octets = *CAME;
     octets[92] = 4;
     let told = end_of(rt.alloc(), &WORDS, World::of(&octets))?;
     expect_end(&rt, &told, 3, 92, &PATCHED[..84]);
-    Ok(())
-}
-
-#[test]
-fn each_pull_that_fails_leaves_the_records_before(rt: HostRuntime) -> Result<(), Fail> {
-    for count in 0..237usize {
-        let world = World {
-            pieces: &[1; 236],
-            failing_pulls: &[count as u64 + 1],
-            ..World::of(CAME)
-        };
-        let told = end_of(rt.alloc(), &WORDS, world)?;
-        expect_end(&rt, &told, 5, count as u64, written_of(count));
-    }
-    Ok(())
-}
-
-#[test]
-fn a_sink_with_too_little_room_has_a_front_of_the_capture(rt: HostRuntime) -> Result<(), Fail> {
-    for capacity in 0..236 {
-        let world = World {
-            pieces: &[60; 4],
-            capacity,
-            ..World::of(CAME)
-        };
-        let told = end_of(rt.alloc(), &WORDS, world)?;
-        expect_end(&rt, &told, 6, 0, &PATCHED[..capacity]);
-    }
     Ok(())
 }

@@ -1,5 +1,6 @@
 //! Captures with edited packets.
-use crate::tests::{CAPTURE, CAPTURE_LITTLE, USAGE_LINE, World, end_of, expect_end, zeros};
+use crate::tests::{USAGE_LINE, expect_end, zeros};
+use narc_doubles::{CAPTURE, CAPTURE_LITTLE, World, end_of};
 use narc_samples::{CONNECTION_REQUEST, DATAGRAM};
 use std::alloc::Global;
 use std::test::Fail;
@@ -26,23 +27,7 @@ const REWRITTEN_LITTLE: [u8; 152] =
 \x03\x00\x00\x00\x00\x00\x00\x00\x14\x00\x00\x00\x3c\x00\x00\x00\
 \x02\x00\x00\x00\x00\xaa\x02\x00\x00\x00\x00\xbb\x08\x06\x00\x01\x08\x00\x06\x04";
 
-/// How many octets the header and the first record have, before and after.
-const FIRST: usize = 82;
-
-const FIRST_REWRITTEN: usize = 100;
-
 const WORDS: [&str; 3] = ["rewrite", "arp.op=2", "ip.ttl=63"];
-
-/// What is written for so many octets of the capture.
-fn rewritten_of(count: usize) -> &'static [u8] {
-    match count {
-        0..24 => &[],
-        24..FIRST => &REWRITTEN[..24],
-        FIRST..98 => &REWRITTEN[..FIRST_REWRITTEN],
-        98..134 => &REWRITTEN[..116],
-        _ => &REWRITTEN,
-    }
-}
 
 #[test]
 fn packets_are_edited_and_other_records_stay(rt: HostRuntime) -> Result<(), Fail> {
@@ -74,66 +59,13 @@ fn a_capture_in_nanoseconds_keeps_its_header(rt: HostRuntime) -> Result<(), Fail
 }
 
 #[test]
-fn each_front_of_a_capture_has_the_records_before(rt: HostRuntime) -> Result<(), Fail> {
-    for count in 0..135usize {
-        let told = end_of(rt.alloc(), &WORDS, World::of(&CAPTURE[..count]))?;
-        let (status, at) = match count {
-            24 | 82 | 98 | 134 => (0, 0),
-            0..24 => (3, 0),
-            25..82 => (3, 24),
-            83..98 => (3, 82),
-            _ => (3, 98),
-        };
-        expect_end(&rt, &told, status, at, rewritten_of(count));
-    }
-    Ok(())
-}
-
-#[test]
 fn a_bad_capture_has_the_records_before(rt: HostRuntime) -> Result<(), Fail> {
     let mut octets = CAPTURE;
     octets[107] = 5;
     let told = end_of(rt.alloc(), &WORDS, World::of(&octets))?;
-    expect_end(&rt, &told, 3, 106, rewritten_of(98));
+    expect_end(&rt, &told, 3, 106, &REWRITTEN[..116]);
     let told = end_of(rt.alloc(), &WORDS, World::of(&[0; 24]))?;
     expect_end(&rt, &told, 3, 0, b"");
-    Ok(())
-}
-
-#[test]
-fn each_pull_that_fails_leaves_the_records_before(rt: HostRuntime) -> Result<(), Fail> {
-    for count in 0..135usize {
-        let world = World {
-            pieces: &[1; 135],
-            failing_pulls: &[count as u64 + 1],
-            ..World::of(&CAPTURE)
-        };
-        let told = end_of(rt.alloc(), &WORDS, world)?;
-        expect_end(&rt, &told, 5, count as u64, rewritten_of(count));
-    }
-    Ok(())
-}
-
-#[test]
-fn each_push_that_fails_leaves_a_front(rt: HostRuntime) -> Result<(), Fail> {
-    // Octet by octet, the capture is written in four pushes: before the first pull of each record, and at the end.
-    for (push, start, end) in [(1, 0, 24), (2, 24, 100), (3, 100, 116), (4, 116, 152)] {
-        let world = World {
-            pieces: &[1; 134],
-            failing_pushes: &[push],
-            ..World::of(&CAPTURE)
-        };
-        let told = end_of(rt.alloc(), &WORDS, world)?;
-        expect_end(&rt, &told, 6, 0, &REWRITTEN[..start + (end - start) / 2]);
-    }
-    for capacity in 0..152 {
-        let world = World {
-            capacity,
-            ..World::of(&CAPTURE)
-        };
-        let told = end_of(rt.alloc(), &WORDS, world)?;
-        expect_end(&rt, &told, 6, 0, &REWRITTEN[..capacity]);
-    }
     Ok(())
 }
 
@@ -214,9 +146,11 @@ fn a_frame_may_be_longer_than_a_page(rt: HostRuntime) -> Result<(), Fail> {
         assert!(rt; frame.len() > 5);
         frame[5] = 1;
         let wanted = capture_of(rt.alloc(), &frame)?;
-        let words = ["rewrite", "eth.dst=000000000001"];
-        let told = end_of(rt.alloc(), &words, World::of(&octets))?;
-        expect_end(&rt, &told, 0, 0, &wanted);
+        for job in ["rewrite", "patch"] {
+            let words = [job, "eth.dst=000000000001"];
+            let told = end_of(rt.alloc(), &words, World::of(&octets))?;
+            expect_end(&rt, &told, 0, 0, &wanted);
+        }
     }
     Ok(())
 }

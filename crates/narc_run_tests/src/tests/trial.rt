@@ -1,8 +1,9 @@
 //! Trials and the version, which read nothing.
 ghost use Rattle.std.specs.Prelude.{◌≡◌, ◌≤◌, length};
 
-use crate::tests::{USAGE_LINE, World, end_of, expect_end, zeros};
+use crate::tests::{USAGE_LINE, expect_end, zeros};
 use narc_bits::{MAX_FRAME, Steps};
+use narc_doubles::{World, end_of};
 use narc_samples::UNREAD_TYPE;
 use narc_stack::{decode_frame, encode_frame, frame_size, same};
 use narc_trial::{Fate, MADE_OCTETS, TrialCounts, made};

@@ -1,4 +1,4 @@
-use Rattle.narc_run_tests.proofs.tests.end_of.Given as goal
+use Rattle.narc_doubles.proofs.world.end_of.Given as goal
 
 abbrev pub ghosts-run_counted-L-Ledger : goal.ghosts-run_counted-L-Ledger
 ghosts-run_counted-L-Ledger a = record { name = a.decoding.name; parts = a.decoding.parts }
