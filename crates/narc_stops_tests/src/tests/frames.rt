@@ -45,6 +45,8 @@ const TOTAL_LENGTH: &[u8] = b"refused ipv4.total_length 16\n";
 
 const CHECKSUM: &[u8] = b"refused ipv4.checksum 24\n";
 
+const SEGMENT_CHECKSUM: &[u8] = b"refused tcp.checksum 50\n";
+
 const DATAGRAM_LINE: &[u8] =
     b"ok eth 0200000000aa 0200000000bb ip4 0 0 .. 0 64 10.0.0.1 10.0.0.2 - udp 1 2 -\n";
 
@@ -227,13 +229,66 @@ const SEGMENT_TURNED: [Turned; 17] = [
     (18, 0xff, CHECKSUM),
     (20, 0x80, b"refused ipv4.flags 20\n"),
     (21, 0xff, CHECKSUM),
-    (34, 0xff, b"refused tcp.checksum 50\n"),
+    (34, 0xff, SEGMENT_CHECKSUM),
     (46, 0xf0, b"refused tcp.offset 46\n"),
-    (47, 0xff, b"refused tcp.checksum 50\n"),
+    (47, 0xff, SEGMENT_CHECKSUM),
     (55, 0xff, b"refused tcp.options 54\n"),
-    (56, 0xff, b"refused tcp.checksum 50\n"),
+    (56, 0xff, SEGMENT_CHECKSUM),
     // The padding.
     (58, 0xff, b"ok "),
+];
+
+const FIVE_OPTIONS_TURNED: [Turned; 28] = [
+    (0, 0xff, b"ok "),
+    (14, 0xf0, VERSION),
+    (14, 0x05, b"refused ipv4.header_length 14\n"),
+    // A header of 28 or of 52 octets, of which the first port is an option of one octet.
+    (14, 0x0a, b"refused ipv4.options 34\n"),
+    (15, 0xff, CHECKSUM),
+    (16, 0xff, TOTAL_LENGTH),
+    // Totals of 56, 52, 44 and 28 octets.
+    (17, 0x3c, CHECKSUM),
+    (18, 0xff, CHECKSUM),
+    (20, 0x80, b"refused ipv4.flags 20\n"),
+    (21, 0xff, CHECKSUM),
+    (34, 0xff, SEGMENT_CHECKSUM),
+    (46, 0xd0, b"refused tcp.offset 46\n"),
+    // A header of 32 octets, which ends within the time stamps.
+    (46, 0x20, b"refused tcp.options 60\n"),
+    (47, 0xff, SEGMENT_CHECKSUM),
+    // A segment size of 5, 6, 12 or 20 octets ends before an option, before an octet 0 or with the area.
+    (55, 0xe4, b"refused tcp.options 54\n"),
+    (56, 0xff, SEGMENT_CHECKSUM),
+    // Three octets end before the length of the time stamps, behind which stands an octet 0.
+    (59, 0x01, b"refused tcp.options 61\n"),
+    (59, 0xf2, b"refused tcp.options 58\n"),
+    (60, 0xff, SEGMENT_CHECKSUM),
+    (61, 0xf0, b"refused tcp.options 60\n"),
+    (62, 0xff, SEGMENT_CHECKSUM),
+    // In place of no operation an option of three octets, or the end of the options.
+    (70, 0xfe, b"refused tcp.options 73\n"),
+    (70, 0x01, SEGMENT_CHECKSUM),
+    // In place of the window scale no operation, and an option whose kind was its length.
+    (71, 0xfd, SEGMENT_CHECKSUM),
+    (71, 0x02, b"refused tcp.options 72\n"),
+    (72, 0xfe, b"refused tcp.options 71\n"),
+    (72, 0x01, b"refused tcp.options 73\n"),
+    (73, 0xff, SEGMENT_CHECKSUM),
+];
+
+const ONE_OPTION_TURNED: [Turned; 11] = [
+    (0, 0xff, b"ok "),
+    (14, 0xf0, VERSION),
+    (14, 0x06, b"refused ipv4.header_length 14\n"),
+    // A header of 28 or of 56 octets, in a packet of 24.
+    (14, 0x09, TOTAL_LENGTH),
+    (15, 0xff, CHECKSUM),
+    (16, 0xff, TOTAL_LENGTH),
+    (18, 0xff, CHECKSUM),
+    (20, 0x80, b"refused ipv4.flags 20\n"),
+    (21, 0xff, CHECKSUM),
+    (35, 0xff, b"refused ipv4.options 34\n"),
+    (36, 0xff, CHECKSUM),
 ];
 
 /// How the answer begins where this bit of this octet is turned.
@@ -268,5 +323,12 @@ fn each_bit_of_a_frame_is_read_or_refused_at_its_field(rt: HostRuntime) -> Resul
     expect_turned(&rt, &ARP_REQUEST[..42], &ARP_TURNED)?;
     expect_turned(&rt, &DATAGRAM, &DATAGRAM_TURNED)?;
     expect_turned(&rt, &CONNECTION_REQUEST, &SEGMENT_TURNED)?;
+    Ok(())
+}
+
+#[test]
+fn each_bit_of_options_is_read_or_refused_at_its_field(rt: HostRuntime) -> Result<(), Fail> {
+    expect_turned(&rt, &ONE_OPTION, &ONE_OPTION_TURNED)?;
+    expect_turned(&rt, &FIVE_OPTIONS, &FIVE_OPTIONS_TURNED)?;
     Ok(())
 }
