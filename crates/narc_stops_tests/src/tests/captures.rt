@@ -72,13 +72,16 @@ fn a_record_has_at_most_262_144_octets(rt: HostRuntime) -> Result<(), Fail> {
     let longest = with_record_of(rt.alloc(), 262_144)?;
     let ended = end_of(rt.alloc(), &["check"], World::of(&longest))?;
     assert!(rt; ended.is(0, 0, b"packets 1\nsnapped 0\nend 1\n"));
-    let ended = end_of(rt.alloc(), &["rewrite"], World::of(&longest))?;
-    assert!(rt; ended.is(0, 0, &longest));
+    for job in ["rewrite", "patch"] {
+        let ended = end_of(rt.alloc(), &[job], World::of(&longest))?;
+        assert!(rt; ended.is(0, 0, &longest));
+    }
     let longer = with_record_of(rt.alloc(), 262_145)?;
-    let jobs: [(&str, &[u8]); 3] = [
+    let jobs: [(&str, &[u8]); 4] = [
         ("show", b"capture us 65535\nbad 32\n"),
         ("check", b"packets 0\nsnapped 0\nbad 32\n"),
         ("rewrite", &CAPTURE[..24]),
+        ("patch", &CAPTURE[..24]),
     ];
     for (job, output) in jobs {
         let ended = end_of(rt.alloc(), &[job], World::of(&longer))?;
