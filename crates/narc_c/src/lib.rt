@@ -60,7 +60,7 @@ fn is_too_long(frame: &[u8]) -> bool
 pub extern "C" fn narc_judge(frame: &[u8], at: &mut u64) -> u32
     ensures judged { length frame.now ≤ MAX_FRAME → IsVerdict frame.now result at.new }
     ensures packet { length frame.now ≤ MAX_FRAME → (result ≡ 0) ↔ HasPacket frame.now }
-    ensures long { MAX_FRAME < length frame.now → result ≡ NARC_TOO_LONG }
+    ensures long { MAX_FRAME < length frame.now → (result ≡ NARC_TOO_LONG) × (at.new ≡ 0) }
 {
     *at = 0;
     if is_too_long(frame) {
@@ -81,7 +81,7 @@ pub extern "C" fn narc_decode(frame: &[u8], packet: &mut NarcPacket, at: &mut u6
     ensures decoded { length frame.now ≤ MAX_FRAME → IsDecoded frame.now packet.new result at.new }
     ensures packet { length frame.now ≤ MAX_FRAME → (result ≡ 0) ↔ HasPacket frame.now }
     ensures kept { 0 < result → packet.new ≡ packet.old }
-    ensures long { MAX_FRAME < length frame.now → result ≡ NARC_TOO_LONG }
+    ensures long { MAX_FRAME < length frame.now → (result ≡ NARC_TOO_LONG) × (at.new ≡ 0) }
 {
     *at = 0;
     if is_too_long(frame) {
@@ -110,6 +110,7 @@ pub extern "C" fn narc_encode(
 ) -> u32
     ensures done { (result ≡ 0) ↔ (HasFrame octets.now packet.now × (length (canonical_frame (view_in octets.now packet.now)) ≤ length room.old)) }
     ensures refused { (result ≡ NARC_NOT_WELL_FORMED) ↔ (HasFrame octets.now packet.now → ⊥) }
+    ensures uncounted { result ≡ NARC_NOT_WELL_FORMED → written.new ≡ 0 }
     ensures short { (result ≡ NARC_NO_ROOM) → written.new ≡ length (canonical_frame (view_in octets.now packet.now)) }
     ensures frame { result ≡ 0 → take written.new room.new ≡ canonical_frame (view_in octets.now packet.now) }
     ensures rest { result ≡ 0 → drop written.new room.new ≡ drop written.new room.old }
@@ -133,8 +134,8 @@ pub extern "C" fn narc_encode(
 #[unsafe(no_mangle)]
 pub extern "C" fn narc_patch(edits: &NarcEdits, frame: &mut [u8], at: &mut u64) -> u32
     ensures judged { HaveSixBits edits.now → length frame.old ≤ MAX_FRAME → IsVerdict frame.old result at.new }
-    ensures long { HaveSixBits edits.now → MAX_FRAME < length frame.old → result ≡ NARC_TOO_LONG }
-    ensures value { (HaveSixBits edits.now → ⊥) → result ≡ NARC_NO_VALUE }
+    ensures long { HaveSixBits edits.now → MAX_FRAME < length frame.old → (result ≡ NARC_TOO_LONG) × (at.new ≡ 0) }
+    ensures value { (HaveSixBits edits.now → ⊥) → (result ≡ NARC_NO_VALUE) × (at.new ≡ 0) }
     ensures patched { result ≡ 0 → frame.new ≡ patched (edits_of edits.now) frame.old }
     ensures edited { result ≡ 0 → (p : PacketView) → IsFrame p frame.old → IsFrame (edited (edits_of edits.now) p) frame.new }
     ensures kept { 0 < result → frame.new ≡ frame.old }
@@ -172,6 +173,7 @@ pub extern "C" fn narc_text(packet: &NarcPacket, octets: &[u8], line: &mut NarcL
 pub extern "C" fn narc_field_name(number: u32, room: &mut [u8], written: &mut usize) -> u32
     ensures done { (result ≡ 0) ↔ ((number < 256) × (length (field_name number) ≤ length room.old)) }
     ensures unnumbered { (result ≡ NARC_NO_FIELD) ↔ (256 ≤ number) }
+    ensures uncounted { 256 ≤ number → written.new ≡ 0 }
     ensures size { number < 256 → written.new ≡ length (field_name number) }
     ensures name { result ≡ 0 → take written.new room.new ≡ field_name number }
     ensures rest { result ≡ 0 → drop written.new room.new ≡ drop written.new room.old }

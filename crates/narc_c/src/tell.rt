@@ -8,7 +8,9 @@ use crate::packet::{
     NARC_ARP, NARC_OTHER, NARC_RAW, NARC_TCP, NARC_UDP, NarcArp, NarcIpv4, NarcPacket, NarcSpan,
     NarcTcp, NarcUdp,
 };
-use narc_packet::{Arp, EthBody, IpBody, Ipv4, Packet, Tcp};
+use narc_packet::{
+    ARP_TYPE, Arp, EthBody, IPV4_TYPE, IpBody, Ipv4, Packet, TCP_PROTOCOL, Tcp, UDP_PROTOCOL,
+};
 
 /// The octets of the Ethernet header, and of those of IPv4 and TCP before their options.
 const ETHERNET: usize = 14;
@@ -152,7 +154,7 @@ fn tell_ip_body(body: &IpBody<'_>, frame: &[u8], at: usize, told: &mut NarcPacke
     match body {
         IpBody::Udp(udp) => {
             told.body = NARC_UDP;
-            told.ip.protocol = 17;
+            told.ip.protocol = UDP_PROTOCOL;
             told.udp = NarcUdp {
                 sport: udp.sport,
                 dport: udp.dport,
@@ -161,7 +163,7 @@ fn tell_ip_body(body: &IpBody<'_>, frame: &[u8], at: usize, told: &mut NarcPacke
         }
         IpBody::Tcp(tcp) => {
             told.body = NARC_TCP;
-            told.ip.protocol = 6;
+            told.ip.protocol = TCP_PROTOCOL;
             told.tcp = tell_tcp(tcp, at);
             told.payload = NarcSpan::of(tcp_data(frame, at), tcp.payload);
         }
@@ -205,11 +207,11 @@ pub(crate) fn tell(packet: &Packet<'_>, frame: &[u8]) -> NarcPacket
     match &packet.body {
         EthBody::Arp(arp) => {
             told.body = NARC_ARP;
-            told.ether_type = 0x0806;
+            told.ether_type = ARP_TYPE;
             told.arp = tell_arp(arp);
         }
         EthBody::Ip(ip) => {
-            told.ether_type = 0x0800;
+            told.ether_type = IPV4_TYPE;
             tell_ipv4(ip, frame, &mut told);
         }
         EthBody::Other {

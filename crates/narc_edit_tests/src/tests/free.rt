@@ -192,7 +192,9 @@ fn a_segment_in_an_edited_packet_keeps_its_free_choices(rt: HostRuntime) -> Resu
 }
 
 #[test]
-fn an_edited_segment_keeps_its_free_choices(rt: HostRuntime) -> Result<(), Fail> {
+fn a_segment_with_edited_ports_and_numbers_keeps_its_free_choices(
+    rt: HostRuntime,
+) -> Result<(), Fail> {
     let alloc = rt.alloc();
     assert!(rt;
         segment_becomes(
@@ -234,6 +236,14 @@ fn an_edited_segment_keeps_its_free_choices(rt: HostRuntime) -> Result<(), Fail>
             [0xce, 0x3a]
         )?
     );
+    Ok(())
+}
+
+#[test]
+fn a_segment_with_edited_bits_and_window_keeps_its_free_choices(
+    rt: HostRuntime,
+) -> Result<(), Fail> {
+    let alloc = rt.alloc();
     assert!(rt;
         segment_becomes(
             alloc,
